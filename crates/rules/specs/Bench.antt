@@ -1,0 +1,71 @@
+-- Document 01, "What the work covers": the build and the translation "on numbers and byte slices, each number as four bytes,
+-- big-endian two's complement; those two calls refuse a byte length that is no multiple of four as a length fault
+-- (2 for an input, 3 for an output)". All else is as in Calls.
+use mathlib.Core.Bool.{Bool, _&&_}
+use mathlib.Core.List.{List}
+use Prim.Native.Nat.{ℕ}
+use lib.Dec.{leb}
+use Rattle.rules.specs.Limits.{roomH, roomV, roomW, roomCoefficients, roomExponents}
+use Rattle.rules.specs.Problem.{Problem}
+use Rattle.rules.specs.Formulas.{Formula}
+use Rattle.rules.specs.Calls.{Verdict, buildVerdict, translateVerdict, problemFits, formulaFits, contentsH, contentsV, contentsW, translatedExponents, lentAfter, Build, buildAnswer, Translate, translateAnswer}
+use Rattle.rules.specs.Bytes.{bytesOf, wholeNumbers, numbersIn, numbersOf}
+
+-- the problem and the formula that the lent bytes say
+abbrev pub problemOf : (m n : ℕ) (matrix moduli : List ℕ) → Problem
+problemOf m n matrix moduli = record { m = m; n = n; matrix = numbersOf matrix; moduli = numbersOf moduli }
+
+abbrev pub formulaOf : (coefficients exponents : List ℕ) → Formula
+formulaOf cs es = record { coefficients = numbersOf cs; exponents = numbersOf es }
+
+-- whether a lent output of bytes has room for so many numbers
+abbrev pub hasRoom : (room : ℕ) → List ℕ → Bool
+hasRoom room bs = wholeNumbers bs && leb room (numbersIn bs)
+
+-- ---- glaukemis_build
+unfoldable pub benchBuildVerdict : (m n : ℕ) (matrix moduli h v w : List ℕ) → Verdict
+benchBuildVerdict m n matrix moduli h v w =
+    let P : Problem = problemOf m n matrix moduli in
+    buildVerdict P (wholeNumbers matrix && wholeNumbers moduli && problemFits P) (hasRoom roomH h && hasRoom roomV v && hasRoom roomW w)
+
+pub record BenchBuilt : Type 0 where
+  pub answer : Build
+  pub h : List ℕ
+  pub v : List ℕ
+  pub w : List ℕ
+
+unfoldable pub benchBuildOf : (m n : ℕ) (matrix moduli h v w : List ℕ) → BenchBuilt
+benchBuildOf m n matrix moduli h v w =
+    let P : Problem = problemOf m n matrix moduli in
+    let x : Verdict = benchBuildVerdict m n matrix moduli h v w in
+    record {
+      answer = buildAnswer P x;
+      h = lentAfter x (bytesOf (contentsH P)) h;
+      v = lentAfter x (bytesOf (contentsV P)) v;
+      w = lentAfter x (bytesOf (contentsW P)) w;
+    }
+
+-- ---- glaukemis_translate; the last two are the outputs
+unfoldable pub benchTranslateVerdict : (m n : ℕ) (matrix moduli coefficients exponents outC outE : List ℕ) → Verdict
+benchTranslateVerdict m n matrix moduli cs es outC outE =
+    let P : Problem = problemOf m n matrix moduli in
+    let f : Formula = formulaOf cs es in
+    translateVerdict P f
+    (wholeNumbers matrix && wholeNumbers moduli && wholeNumbers cs && wholeNumbers es && problemFits P && formulaFits P f)
+    (hasRoom roomCoefficients outC && hasRoom roomExponents outE)
+
+pub record BenchTranslated : Type 0 where
+  pub answer : Translate
+  pub coefficients : List ℕ
+  pub exponents : List ℕ
+
+unfoldable pub benchTranslateOf : (m n : ℕ) (matrix moduli coefficients exponents outC outE : List ℕ) → BenchTranslated
+benchTranslateOf m n matrix moduli cs es outC outE =
+    let P : Problem = problemOf m n matrix moduli in
+    let f : Formula = formulaOf cs es in
+    let x : Verdict = benchTranslateVerdict m n matrix moduli cs es outC outE in
+    record {
+      answer = translateAnswer P x;
+      coefficients = lentAfter x (bytesOf (f .coefficients)) outC;
+      exponents = lentAfter x (bytesOf (translatedExponents P f)) outE;
+    }

@@ -1,0 +1,203 @@
+-- Document 01, "Numbers and the order of checks": what build, weigh and translate answer, and what every lent buffer holds after.
+use mathlib.Core.Bool.{Bool, true, false, not, _&&_, _||_}
+use mathlib.Core.List.{List, [], _∷_, _++_}
+use Prim.Native.Nat.{ℕ, _+_, _*_}
+use lib.Dec.{leb, eqb}
+use lib.ListN.{length, drop}
+use lib.IntN.{ℤ}
+use Rattle.whole.specs.Lists.{nth, tab, join}
+use Rattle.whole.specs.Matrix.{Matrix}
+use Rattle.rules.specs.Limits.{sizesInRange, modulusInRange, entryInRange, exponentInRange, mostTerms, roomH, roomV, roomW, roomWeights, roomCoefficients, roomExponents}
+use Rattle.rules.specs.Search.{Found, none, found, first}
+use Rattle.rules.specs.Problem.{Problem, s, N}
+use Rattle.rules.specs.Stages.{Run, run, H, U, W}
+use Rattle.rules.specs.Formulas.{weight, isFree, d, translated, Formula, terms, term, passes}
+
+-- ---- the order of checks
+-- a number of the table, and the place of its first fault, if there is one
+pub record Check : Type 0 where
+  pub number : ℕ
+  pub fault : Found
+
+pub data Verdict : Type 0 where
+  taken : Verdict
+  refused : (number place : ℕ) → Verdict
+
+-- "Checks go in the order of the numbers": the first that finds a fault decides
+abbrev pub verdict : List Check → Verdict
+verdict [] = taken
+verdict (c ∷ cs) = elim (c .fault) [ none ↦ verdict cs | found place ↦ refused (c .number) place ]
+
+-- "where a paper names none, it is 0"
+abbrev pub unless : Bool → Found
+unless true = none
+unless false = found 0
+
+-- the first number of a list that a test does not pass
+unfoldable pub firstOut : (ℤ → Bool) → List ℤ → Found
+firstOut good xs = first (λ i. not (good (nth xs i))) 0 (length xs)
+
+-- 1 to 5. inputs: each lent input has the right length; outputs: no lent output is shorter than its size
+abbrev pub sizesCheck : Problem → Check
+sizesCheck P = record { number = 1; fault = unless (sizesInRange (P .m) (P .n)) }
+
+abbrev pub inputsCheck : (inputs : Bool) → Check
+inputsCheck inputs = record { number = 2; fault = unless inputs }
+
+abbrev pub outputsCheck : (outputs : Bool) → Check
+outputsCheck outputs = record { number = 3; fault = unless outputs }
+
+abbrev pub moduliCheck : Problem → Check
+moduliCheck P = record { number = 4; fault = firstOut modulusInRange (P .moduli) }
+
+abbrev pub entriesCheck : Problem → Check
+entriesCheck P = record { number = 5; fault = firstOut entryInRange (P .matrix) }
+
+-- 6
+abbrev pub exponentsCheck : List ℤ → Check
+exponentsCheck es = record { number = 6; fault = firstOut exponentInRange es }
+
+-- 7: "a step of the build writes a value beyond M either way"
+abbrev pub rangeCheck : Run → Check
+rangeCheck u = record { number = 7; fault = unless (not (u .state .over)) }
+
+-- 8 and 9: "In one term 8 comes before 9; between terms the lower term decides."
+abbrev pub termRefused : Problem → Run → (v : ℕ → ℤ) → Bool
+termRefused P u v = not (isFree P v) || passes P u v
+
+abbrev pub termNumber : Problem → (v : ℕ → ℤ) → ℕ
+termNumber P v = elim (isFree P v) [ true ↦ 9 | false ↦ 8 ]
+
+abbrev pub termsFault : Problem → Formula → Found → Check
+termsFault P f none = record { number = 0; fault = none }
+termsFault P f (found t) = record { number = termNumber P (term P f t); fault = found t }
+
+abbrev pub termsCheck : Problem → Run → Formula → Check
+termsCheck P u f = termsFault P f (first (λ t. termRefused P u (term P f t)) 0 (terms f))
+
+-- "The build gives 1 to 5 and 7; weights 1 to 6; translation 1 to 9."
+unfoldable pub buildVerdict : Problem → (inputs outputs : Bool) → Verdict
+buildVerdict P inputs outputs =
+    verdict (sizesCheck P ∷ inputsCheck inputs ∷ outputsCheck outputs ∷ moduliCheck P ∷ entriesCheck P ∷ rangeCheck (run P) ∷ [])
+
+unfoldable pub weighVerdict : Problem → (exponents : List ℤ) → (inputs outputs : Bool) → Verdict
+weighVerdict P es inputs outputs =
+    verdict (sizesCheck P ∷ inputsCheck inputs ∷ outputsCheck outputs ∷ moduliCheck P ∷ entriesCheck P ∷ exponentsCheck es ∷ [])
+
+unfoldable pub translateVerdict : Problem → Formula → (inputs outputs : Bool) → Verdict
+translateVerdict P f inputs outputs =
+    verdict (
+    sizesCheck P ∷ inputsCheck inputs ∷ outputsCheck outputs ∷ moduliCheck P ∷ entriesCheck P
+    ∷ exponentsCheck (f .exponents) ∷ rangeCheck (run P) ∷ termsCheck P (run P) f ∷ []
+    )
+
+-- ---- lengths: "matrix m·n, moduli m, coefficients one and exponents n per term; more than 64 terms"
+abbrev pub problemFits : Problem → Bool
+problemFits P = eqb (length (P .matrix)) (P .m * P .n) && eqb (length (P .moduli)) (P .m)
+
+abbrev pub formulaFits : Problem → Formula → Bool
+formulaFits P f = eqb (length (f .exponents)) (terms f * P .n) && leb (terms f) mostTerms
+
+-- ---- the contents
+-- the entries of a matrix of m rows and n columns, "row after row"
+abbrev pub grid : (m n : ℕ) → Matrix → List ℤ
+grid m n A = join (tab m (λ r. tab n (λ c. A r c)))
+
+-- "(H with its zero columns m·N, V and W N·N, weights m, coefficients one and exponents d per term)"
+unfoldable pub contentsH : Problem → List ℤ
+contentsH P = grid (P .m) (N P) (H (run P))
+
+unfoldable pub contentsV : Problem → List ℤ
+contentsV P = grid (N P) (N P) (U (run P))
+
+unfoldable pub contentsW : Problem → List ℤ
+contentsW P = grid (N P) (N P) (W (run P))
+
+unfoldable pub weights : Problem → (v : ℕ → ℤ) → List ℤ
+weights P v = tab (P .m) (weight P v)
+
+unfoldable pub translatedExponents : Problem → Formula → List ℤ
+translatedExponents P f = grid (terms f) (d P (run P)) (λ t g. translated P (run P) (term P f t) g)
+
+-- "On success the first entries are filled without gaps, and those after them are untouched."
+abbrev pub filled : {A : Type 0} → (contents lent : List A) → List A
+filled contents lent = contents ++ drop (length contents) lent
+
+-- ---- the three calls: the answer, and the lent outputs after
+-- "A refusal returns its number and place, zero in every other field, and every lent buffer holds what it held."
+pub record Build : Type 0 where
+  pub number : ℕ
+  pub place : ℕ
+  pub rank : ℕ
+  pub moduli : ℕ
+  pub steps : ℕ
+
+abbrev pub buildAnswer : Problem → Verdict → Build
+buildAnswer P (refused number place) = record { number = number; place = place; rank = 0; moduli = 0; steps = 0 }
+buildAnswer P taken = record { number = 0; place = 0; rank = run P .rank; moduli = s P; steps = run P .state .steps }
+
+abbrev pub lentAfter : {A : Type 0} → Verdict → (contents lent : List A) → List A
+lentAfter (refused number place) contents lent = lent
+lentAfter taken contents lent = filled contents lent
+
+pub record Built : Type 0 where
+  pub answer : Build
+  pub h : List ℤ
+  pub v : List ℤ
+  pub w : List ℤ
+
+abbrev pub built : Problem → (h v w : List ℤ) → Verdict → Built
+built P h v w x = record {
+  answer = buildAnswer P x;
+  h = lentAfter x (contentsH P) h;
+  v = lentAfter x (contentsV P) v;
+  w = lentAfter x (contentsW P) w;
+}
+
+unfoldable pub buildOf : Problem → (h v w : List ℤ) → Built
+buildOf P h v w = built P h v w (buildVerdict P (problemFits P) (leb roomH (length h) && leb roomV (length v) && leb roomW (length w)))
+
+pub record Weigh : Type 0 where
+  pub number : ℕ
+  pub place : ℕ
+
+abbrev pub weighAnswer : Verdict → Weigh
+weighAnswer (refused number place) = record { number = number; place = place }
+weighAnswer taken = record { number = 0; place = 0 }
+
+pub record Weighed : Type 0 where
+  pub answer : Weigh
+  pub weights : List ℤ
+
+abbrev pub weighed : Problem → (exponents out : List ℤ) → Verdict → Weighed
+weighed P es out x = record { answer = weighAnswer x; weights = lentAfter x (weights P (nth es)) out }
+
+unfoldable pub weighOf : Problem → (exponents out : List ℤ) → Weighed
+weighOf P es out = weighed P es out (weighVerdict P es (problemFits P && eqb (length es) (P .n)) (leb roomWeights (length out)))
+
+pub record Translate : Type 0 where
+  pub number : ℕ
+  pub place : ℕ
+  pub d : ℕ
+
+abbrev pub translateAnswer : Problem → Verdict → Translate
+translateAnswer P (refused number place) = record { number = number; place = place; d = 0 }
+translateAnswer P taken = record { number = 0; place = 0; d = d P (run P) }
+
+pub record Translated : Type 0 where
+  pub answer : Translate
+  pub coefficients : List ℤ
+  pub exponents : List ℤ
+
+-- "The coefficient is kept."
+abbrev pub translatedTo : Problem → Formula → (coefficients exponents : List ℤ) → Verdict → Translated
+translatedTo P f cs es x = record {
+  answer = translateAnswer P x;
+  coefficients = lentAfter x (f .coefficients) cs;
+  exponents = lentAfter x (translatedExponents P f) es;
+}
+
+unfoldable pub translateOf : Problem → Formula → (coefficients exponents : List ℤ) → Translated
+translateOf P f cs es =
+    translatedTo P f cs es
+    (translateVerdict P f (problemFits P && formulaFits P f) (leb roomCoefficients (length cs) && leb roomExponents (length es)))

@@ -1,0 +1,79 @@
+-- Document 01, "Weights and formulas". A monomial is its exponents v, one for each quantity, numbered from 0.
+use mathlib.Core.Path.{_≡_}
+use mathlib.Core.Bool.{Bool, true, false, not}
+use mathlib.Core.List.{List}
+use Prim.Native.Nat.{ℕ, _+_, _-_, _*_, _<_}
+use lib.Dec.{ltb}
+use lib.ListN.{length, getD}
+use lib.IntN.{ℤ, pos, _*ℤ_}
+use lib.Signed.{quotZ, remZ}
+use Rattle.whole.specs.Lists.{nth}
+use Rattle.whole.specs.Sum.{sum}
+use Rattle.whole.specs.Matrix.{Matrix}
+use Rattle.rules.specs.Limits.{isZero, beyond}
+use Rattle.rules.specs.Search.{Found, none, found, first}
+use Rattle.rules.specs.Problem.{Problem, entry, modulus, modulusRows, s, N}
+use Rattle.rules.specs.Stages.{Run, U, W}
+
+-- "the row times v"
+unfoldable pub rowTimes : Problem → (v : ℕ → ℤ) → (i : ℕ) → ℤ
+rowTimes P v i = sum (P .n) (λ j. entry P i j *ℤ v j)
+
+-- "the remainder of that by the modulus, with the dividend's sign"
+unfoldable pub remainder : (dividend modulus : ℤ) → ℤ
+remainder x p = remZ x p
+
+-- "The weight of exponents v in a row is the row times v; with a modulus, the remainder"
+unfoldable pub weight : Problem → (v : ℕ → ℤ) → (i : ℕ) → ℤ
+weight P v i = elim (isZero (modulus P i)) [ true ↦ rowTimes P v i | false ↦ remainder (rowTimes P v i) (modulus P i) ]
+
+-- "v is free of dimension when every weight is 0."
+pub record Free (P : Problem) (v : ℕ → ℤ) : Type 0 where
+  pub weights : (i : ℕ) → i < P .m → weight P v i ≡ pos 0
+
+-- the same as a test: no row has a weight that is not 0
+abbrev pub isNone : Found → Bool
+isNone none = true
+isNone (found i) = false
+
+unfoldable pub isFree : Problem → (v : ℕ → ℤ) → Bool
+isFree P v = isNone (first (λ i. not (isZero (weight P v i))) 0 (P .m))
+
+-- "let k hold, for each row with a modulus, the row times v divided by the modulus"
+unfoldable pub kOf : Problem → (v : ℕ → ℤ) → (c : ℕ) → ℤ
+kOf P v c =
+    let i : ℕ = getD (modulusRows P) c 0 in
+    quotZ (rowTimes P v i) (modulus P i)
+
+-- "k followed by v"
+unfoldable pub kAnd : Problem → (v : ℕ → ℤ) → (c : ℕ) → ℤ
+kAnd P v c = elim (ltb c (s P)) [ true ↦ kOf P v c | false ↦ v (c - s P) ]
+
+-- "the last d = N - r columns"
+abbrev pub d : Problem → Run → ℕ
+d P u = N P - u .rank
+
+-- "The translated exponents are the last d rows of W times k followed by v": that of group g
+unfoldable pub translated : Problem → Run → (v : ℕ → ℤ) → (g : ℕ) → ℤ
+translated P u v g = sum (N P) (λ c. W u (u .rank + g) c *ℤ kAnd P v c)
+
+-- "The groups are the last d columns of V, cut to the quantity rows": the exponent of quantity j in group g
+unfoldable pub group : Problem → Run → (g j : ℕ) → ℤ
+group P u g j = U u (s P + j) (u .rank + g)
+
+-- ---- formulas
+-- a coefficient for each term, and n exponents for each term, term after term
+pub record Formula : Type 0 where
+  pub coefficients : List ℤ
+  pub exponents : List ℤ
+
+abbrev pub terms : Formula → ℕ
+terms f = length (f .coefficients)
+
+-- the exponents of term t
+abbrev pub term : Problem → Formula → (t : ℕ) → ℕ → ℤ
+term P f t j = nth (f .exponents) (t * P .n + j)
+
+-- whether a translated exponent is beyond M
+unfoldable pub passes : Problem → Run → (v : ℕ → ℤ) → Bool
+passes P u v = not (isNone (first (λ g. beyond (translated P u v g)) 0 (d P u)))

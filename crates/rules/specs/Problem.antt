@@ -1,0 +1,58 @@
+-- Document 01, "What the work covers" and "Hermite form and the normal multiplier", its first paragraph: a problem and its matrix C.
+-- Rows and columns count from 0.
+use mathlib.Core.Bool.{Bool, true, false}
+use mathlib.Core.List.{List, [], _∷_, _++_, map}
+use Prim.Native.Nat.{ℕ, zero, suc, _+_, _*_}
+use lib.Dec.{eqb}
+use lib.ListN.{length, getD}
+use lib.IntN.{ℤ, pos, negℤ}
+use Rattle.whole.specs.Lists.{nth, tab}
+use Rattle.whole.specs.Matrix.{Matrix}
+use Rattle.rules.specs.Limits.{isZero}
+
+-- "A problem is m rows (dimensions) by n columns (quantities) of whole numbers, with one modulus for each row."
+-- The matrix stands row after row.
+pub record Problem : Type 0 where
+  pub m : ℕ
+  pub n : ℕ
+  pub matrix : List ℤ
+  pub moduli : List ℤ
+
+abbrev pub entry : Problem → Matrix
+entry P i j = nth (P .matrix) (i * P .n + j)
+
+abbrev pub modulus : Problem → ℕ → ℤ
+modulus P i = nth (P .moduli) i
+
+-- the rows with a modulus ("0 says the row has none"), from the top row down; i is the row of the first modulus listed
+unfoldable pub modulusRowsFrom : (i : ℕ) → List ℤ → List ℕ
+modulusRowsFrom i [] = []
+modulusRowsFrom i (p ∷ ps) = elim (isZero p) [ true ↦ modulusRowsFrom (suc i) ps | false ↦ i ∷ modulusRowsFrom (suc i) ps ]
+
+abbrev pub modulusRows : Problem → List ℕ
+modulusRows P = modulusRowsFrom 0 (P .moduli)
+
+-- "the count s of non-zero moduli"
+abbrev pub s : Problem → ℕ
+s P = length (modulusRows P)
+
+-- "N = n + s columns"
+abbrev pub N : Problem → ℕ
+N P = P .n + s P
+
+-- "For each row with a modulus p, from the top row down, take a column that is -p in that row and 0 elsewhere."
+abbrev pub modulusColumn : Problem → ℕ → List ℤ
+modulusColumn P i = tab (P .m) (λ r. elim (eqb i r) [ true ↦ negℤ (modulus P i) | false ↦ pos 0 ])
+
+abbrev pub modulusColumns : Problem → List (List ℤ)
+modulusColumns P = map (modulusColumn P) (modulusRows P)
+
+abbrev pub quantityColumns : Problem → List (List ℤ)
+quantityColumns P = tab (P .n) (λ j. tab (P .m) (λ i. entry P i j))
+
+-- "The s such columns stand before the n quantity columns; together they are C."
+unfoldable pub columns : Problem → List (List ℤ)
+columns P = modulusColumns P ++ quantityColumns P
+
+unfoldable pub C : Problem → Matrix
+C P i j = nth (getD (columns P) j []) i
