@@ -8,7 +8,7 @@ use lib.Dec.{leb}
 use Rattle.rules.specs.Limits.{roomH, roomV, roomW, roomCoefficients, roomExponents}
 use Rattle.rules.specs.Problem.{Problem}
 use Rattle.rules.specs.Formulas.{Formula}
-use Rattle.rules.specs.Calls.{Verdict, buildVerdict, translateVerdict, problemFits, formulaFits, contentsH, contentsV, contentsW, translatedExponents, lentAfter, Build, buildAnswer, Translate, translateAnswer}
+use Rattle.rules.specs.Calls.{Verdict, buildVerdict, translateVerdict, problemFits, formulaFits, contentsH, contentsV, contentsW, translatedExponents, lentAfter, BuildAnswer, buildReply, TranslateAnswer, translateReply}
 use Rattle.rules.specs.Bytes.{bytesOf, wholeNumbers, numbersIn, numbersOf}
 
 -- the problem and the formula that the lent bytes say
@@ -29,7 +29,7 @@ benchBuildVerdict m n matrix moduli h v w =
     buildVerdict P (wholeNumbers matrix && wholeNumbers moduli && problemFits P) (hasRoom roomH h && hasRoom roomV v && hasRoom roomW w)
 
 pub record BenchBuilt : Type 0 where
-  pub answer : Build
+  pub answer : BuildAnswer
   pub h : List ℕ
   pub v : List ℕ
   pub w : List ℕ
@@ -39,7 +39,7 @@ benchBuildOf m n matrix moduli h v w =
     let P : Problem = problemOf m n matrix moduli in
     let x : Verdict = benchBuildVerdict m n matrix moduli h v w in
     record {
-      answer = buildAnswer P x;
+      answer = buildReply P x;
       h = lentAfter x (bytesOf (contentsH P)) h;
       v = lentAfter x (bytesOf (contentsV P)) v;
       w = lentAfter x (bytesOf (contentsW P)) w;
@@ -55,7 +55,7 @@ benchTranslateVerdict m n matrix moduli cs es outC outE =
     (hasRoom roomCoefficients outC && hasRoom roomExponents outE)
 
 pub record BenchTranslated : Type 0 where
-  pub answer : Translate
+  pub answer : TranslateAnswer
   pub coefficients : List ℕ
   pub exponents : List ℕ
 
@@ -65,7 +65,7 @@ benchTranslateOf m n matrix moduli cs es outC outE =
     let f : Formula = formulaOf cs es in
     let x : Verdict = benchTranslateVerdict m n matrix moduli cs es outC outE in
     record {
-      answer = translateAnswer P x;
+      answer = translateReply P x;
       coefficients = lentAfter x (bytesOf (f .coefficients)) outC;
       exponents = lentAfter x (bytesOf (translatedExponents P f)) outE;
     }

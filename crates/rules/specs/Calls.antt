@@ -125,30 +125,30 @@ filled contents lent = contents ++ drop (length contents) lent
 
 -- ---- the three calls: the answer, and the lent outputs after
 -- "A refusal returns its number and place, zero in every other field, and every lent buffer holds what it held."
-pub record Build : Type 0 where
+pub record BuildAnswer : Type 0 where
   pub number : ℕ
   pub place : ℕ
   pub rank : ℕ
   pub moduli : ℕ
   pub steps : ℕ
 
-abbrev pub buildAnswer : Problem → Verdict → Build
-buildAnswer P (refused number place) = record { number = number; place = place; rank = 0; moduli = 0; steps = 0 }
-buildAnswer P taken = record { number = 0; place = 0; rank = run P .rank; moduli = s P; steps = run P .state .steps }
+abbrev pub buildReply : Problem → Verdict → BuildAnswer
+buildReply P (refused number place) = record { number = number; place = place; rank = 0; moduli = 0; steps = 0 }
+buildReply P taken = record { number = 0; place = 0; rank = run P .rank; moduli = s P; steps = run P .state .steps }
 
 abbrev pub lentAfter : {A : Type 0} → Verdict → (contents lent : List A) → List A
 lentAfter (refused number place) contents lent = lent
 lentAfter taken contents lent = filled contents lent
 
 pub record Built : Type 0 where
-  pub answer : Build
+  pub answer : BuildAnswer
   pub h : List ℤ
   pub v : List ℤ
   pub w : List ℤ
 
 abbrev pub built : Problem → (h v w : List ℤ) → Verdict → Built
 built P h v w x = record {
-  answer = buildAnswer P x;
+  answer = buildReply P x;
   h = lentAfter x (contentsH P) h;
   v = lentAfter x (contentsV P) v;
   w = lentAfter x (contentsW P) w;
@@ -157,42 +157,42 @@ built P h v w x = record {
 unfoldable pub buildOf : Problem → (h v w : List ℤ) → Built
 buildOf P h v w = built P h v w (buildVerdict P (problemFits P) (leb roomH (length h) && leb roomV (length v) && leb roomW (length w)))
 
-pub record Weigh : Type 0 where
+pub record WeighAnswer : Type 0 where
   pub number : ℕ
   pub place : ℕ
 
-abbrev pub weighAnswer : Verdict → Weigh
-weighAnswer (refused number place) = record { number = number; place = place }
-weighAnswer taken = record { number = 0; place = 0 }
+abbrev pub weighReply : Verdict → WeighAnswer
+weighReply (refused number place) = record { number = number; place = place }
+weighReply taken = record { number = 0; place = 0 }
 
 pub record Weighed : Type 0 where
-  pub answer : Weigh
+  pub answer : WeighAnswer
   pub weights : List ℤ
 
 abbrev pub weighed : Problem → (exponents out : List ℤ) → Verdict → Weighed
-weighed P es out x = record { answer = weighAnswer x; weights = lentAfter x (weights P (nth es)) out }
+weighed P es out x = record { answer = weighReply x; weights = lentAfter x (weights P (nth es)) out }
 
 unfoldable pub weighOf : Problem → (exponents out : List ℤ) → Weighed
 weighOf P es out = weighed P es out (weighVerdict P es (problemFits P && eqb (length es) (P .n)) (leb roomWeights (length out)))
 
-pub record Translate : Type 0 where
+pub record TranslateAnswer : Type 0 where
   pub number : ℕ
   pub place : ℕ
   pub d : ℕ
 
-abbrev pub translateAnswer : Problem → Verdict → Translate
-translateAnswer P (refused number place) = record { number = number; place = place; d = 0 }
-translateAnswer P taken = record { number = 0; place = 0; d = d P (run P) }
+abbrev pub translateReply : Problem → Verdict → TranslateAnswer
+translateReply P (refused number place) = record { number = number; place = place; d = 0 }
+translateReply P taken = record { number = 0; place = 0; d = d P (run P) }
 
 pub record Translated : Type 0 where
-  pub answer : Translate
+  pub answer : TranslateAnswer
   pub coefficients : List ℤ
   pub exponents : List ℤ
 
 -- "The coefficient is kept."
 abbrev pub translatedTo : Problem → Formula → (coefficients exponents : List ℤ) → Verdict → Translated
 translatedTo P f cs es x = record {
-  answer = translateAnswer P x;
+  answer = translateReply P x;
   coefficients = lentAfter x (f .coefficients) cs;
   exponents = lentAfter x (translatedExponents P f) es;
 }

@@ -2,7 +2,7 @@
 use mathlib.Core.Bool.{Bool, _&&_}
 use Prim.Native.Nat.{ℕ}
 use lib.Dec.{leb, ltb, eqb}
-use lib.IntN.{ℤ, pos, natAbs}
+use lib.IntN.{ℤ, pos, negℤ, natAbs}
 use lib.Signed.{leZ}
 
 -- "M means 2,147,483,647."
@@ -16,17 +16,21 @@ beyond z = ltb M (natAbs z)
 abbrev pub isZero : ℤ → Bool
 isZero z = eqb (natAbs z) 0
 
+-- lo to hi
+abbrev pub within : (lo hi : ℤ) → ℤ → Bool
+within lo hi z = leZ lo z && leZ z hi
+
 -- "m is 1 to 8; n is 1 to 16"
 abbrev pub sizesInRange : ℕ → ℕ → Bool
 sizesInRange m n = (leb 1 m && leb m 8) && (leb 1 n && leb n 16)
 
 -- "entries -1000 to 1000"
 abbrev pub entryInRange : ℤ → Bool
-entryInRange z = leb (natAbs z) 1000
+entryInRange z = within (negℤ (pos 1000)) (pos 1000) z
 
 -- "moduli 0 to 1000"
 abbrev pub modulusInRange : ℤ → Bool
-modulusInRange z = leZ (pos 0) z && leZ z (pos 1000)
+modulusInRange z = within (pos 0) (pos 1000) z
 
 -- "a formula has 0 to 64 terms"
 abbrev pub mostTerms : ℕ
@@ -34,7 +38,7 @@ mostTerms = 64
 
 -- "formula exponents -10,000 to 10,000"
 abbrev pub exponentInRange : ℤ → Bool
-exponentInRange z = leb (natAbs z) 10_000
+exponentInRange z = within (negℤ (pos 10_000)) (pos 10_000) z
 
 -- "Outputs: H at least 192 entries, V and W 576 each, weights 8, translated coefficients 64, translated exponents 1,024."
 abbrev pub roomH : ℕ
