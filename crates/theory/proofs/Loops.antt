@@ -1,0 +1,139 @@
+-- The recursions of rules/specs as a loop meets them: before the first index, one index more, and the way out.
+use mathlib.Core.Path.{_≡_, refl, _∙_, ap}
+use mathlib.Core.Logic.{_≢_}
+use mathlib.Core.Bool.{Bool, true, false}
+use Prim.Native.Nat.{ℕ, zero, suc, _-_, _≤_, _<_}
+use native.Mathlib.Omega.{arith}
+use native.Mathlib.Decide.{ℕ-discrete}
+use lib.Dec.{ltb}
+use Rattle.whole.proofs.Tests.{lt?, is-true, is-false}
+use Rattle.rules.specs.Search.{Found, none, found, orAt, first, last, orSmaller, smallest, each}
+use Rattle.rules.specs.Steps.{State, Table}
+use Rattle.rules.specs.Stages.{size, next, eliminate, settle, Progress, settled, row, rows, pivotRow, reduceFirst, stage3}
+use Rattle.theory.proofs.Search.{In, SmallestIs, all-zero, is-smallest, smallest-is, smallest-none}
+use Rattle.theory.proofs.Eliminate.{eliminate-done, eliminate-alone, eliminate-filled}
+
+ltb-yes : (m n : ℕ) → m < n → ltb m n ≡ true
+ltb-yes m n h = is-true (lt? m n) (λ k. omega arith)
+
+ltb-no : (m n : ℕ) → n ≤ m → ltb m n ≡ false
+ltb-no m n h = is-false (lt? m n) (λ k. omega arith)
+
+-- ---- the smallest
+module _ (f : ℕ → ℕ) (lo : ℕ) where
+  pub smallest-start : (c : ℕ) → c ≤ lo → smallest f lo c ≡ none
+  unfolding smallest
+  smallest-start zero h = refl
+  smallest-start (suc c) h = rw (ltb-yes c lo h, smallest)
+
+  pub smallest-step : (c : ℕ) → lo ≤ c → smallest f lo (suc c) ≡ orSmaller f c (smallest f lo c)
+  unfolding smallest
+  smallest-step c h = rw (ltb-no c lo h, smallest)
+
+-- ---- the first
+module _ (test : ℕ → Bool) (lo : ℕ) where
+  pub first-start : (c : ℕ) → c ≤ lo → first test lo c ≡ none
+  unfolding first
+  first-start zero h = refl
+  first-start (suc c) h = rw (ltb-yes c lo h, first)
+
+  pub first-step : (c : ℕ) → lo ≤ c → first test lo (suc c) ≡ orAt test c (first test lo c)
+  unfolding first
+  first-step c h = rw (ltb-no c lo h, first)
+
+  -- a search that has found is left
+  pub first-stop : (j c hi : ℕ) → c ≤ hi → lo ≤ c → first test lo c ≡ found j → first test lo hi ≡ found j
+  first-stop j c zero h l e = let z : c ≡ 0 = omega arith in rw (← z) e
+  first-stop j c (suc hi) h l e = go (ℕ-discrete c (suc hi)) (λ k. first-stop j c hi k l e)
+    where
+      go : Dec (c ≡ suc hi) → (c ≤ hi → first test lo hi ≡ found j) → first test lo (suc hi) ≡ found j
+      go (yes z) r = rw (← z) e
+      go (no z) r = first-step hi (omega arith) ∙ ap (orAt test hi) (r (omega arith))
+
+  -- nothing so far, and not here
+  pub first-more : (c : ℕ) → lo ≤ c → first test lo c ≡ none → test c ≡ false → first test lo (suc c) ≡ none
+  first-more c h e t = first-step c h ∙ ap (orAt test c) e ∙ rw t
+
+  -- nothing so far, and here
+  pub first-hit : (c hi : ℕ) → lo ≤ c → c < hi → first test lo c ≡ none → test c ≡ true → first test lo hi ≡ found c
+  first-hit c hi h l e t = first-stop c (suc c) hi l (omega arith) (first-step c h ∙ ap (orAt test c) e ∙ rw t)
+
+-- ---- the last, from the end down
+module _ (test : ℕ → Bool) (c : ℕ) where
+  pub last-hit : test c ≡ true → last test (suc c) ≡ found c
+  unfolding last
+  last-hit t = rw (t, last)
+
+  pub last-more : test c ≡ false → last test (suc c) ≡ last test c
+  unfolding last
+  last-more t = rw (t, last)
+
+-- ---- a step at each index
+module _ {S : Type 0} (f : ℕ → S → S) (lo : ℕ) (s : S) where
+  pub each-start : (c : ℕ) → c ≤ lo → each f lo c s ≡ s
+  unfolding each
+  each-start zero h = refl
+  each-start (suc c) h = rw (ltb-yes c lo h, each)
+
+  pub each-step : (c : ℕ) → lo ≤ c → each f lo (suc c) s ≡ f c (each f lo c s)
+  unfolding each
+  each-step c h = rw (ltb-no c lo h, each)
+
+-- ---- the rows of a stage, from the last to the first
+module _ (tb : Table) (n lo : ℕ) (g : Progress) where
+  pub rows-end : rows tb n lo 0 g ≡ g
+  unfolding rows
+  rows-end = refl
+
+  pub rows-step : (k : ℕ) → rows tb n lo (suc k) g ≡ rows tb n lo k (row tb n lo k g)
+  unfolding rows
+  rows-step k = refl
+
+-- ---- the columns of stage 3, from the last to the first
+module _ (n r : ℕ) (u : State) where
+  pub stage3-end : (c : ℕ) → c ≤ r → stage3 n r c u ≡ u
+  unfolding stage3
+  stage3-end zero h = refl
+  stage3-end (suc c) h = rw (ltb-yes c r h, stage3)
+
+  pub stage3-step : (c : ℕ) → r ≤ c → stage3 n r (suc c) u ≡ stage3 n r c (reduceFirst r c u (pivotRow n c u))
+  unfolding stage3
+  stage3-step c h = rw (ltb-no c r h, stage3)
+
+-- ---- a row: "if the row is all zero, go to the next row"
+pub row-pass : (tb : Table) (n lo k : ℕ) (g : Progress) → ((c : ℕ) → In lo (g .a) c → size tb (g .state) k c ≡ 0) → row tb n lo k g ≡ g
+unfolding row next
+row-pass tb n lo k g z =
+    let e : smallest (size tb (g .state) k) lo (g .a) ≡ none = smallest-none (size tb (g .state) k) lo (g .a) z in
+    rw (eliminated e) (rw e)
+  where
+    eliminated : smallest (size tb (g .state) k) lo (g .a) ≡ none → eliminate tb lo (g .a) k (g .state) ≡ g .state
+    eliminated e = eliminate-done tb lo (g .a) k (g .state) (rw e)
+
+-- otherwise (A), until exactly one column is left, and (B) with that
+pub record Worked (tb : Table) (n lo k : ℕ) (g h : Progress) : Type 0 where
+  pub left : ℕ
+  pub active : In lo (g .a) left
+  pub filled : size tb (eliminate tb lo (g .a) k (g .state)) k left ≢ 0
+  pub only : (c : ℕ) → In lo (g .a) c → left ≢ c → size tb (eliminate tb lo (g .a) k (g .state)) k c ≡ 0
+  pub result : h ≡ record { state = settle tb n k left (g .a - 1) (eliminate tb lo (g .a) k (g .state)); a = g .a - 1 }
+
+pub row-works : (tb : Table) (n lo k : ℕ) (g : Progress) (p : ℕ) → In lo (g .a) p → size tb (g .state) k p ≢ 0 → Worked tb n lo k g (row tb n lo k g)
+unfolding row
+row-works tb n lo k g p x h = go (smallest-is (size tb u k) lo (g .a))
+  where
+    u : State
+    u = eliminate tb lo (g .a) k (g .state)
+
+    some : (c : ℕ) × In lo (g .a) c × (size tb u k c ≢ 0)
+    some = eliminate-filled tb lo (g .a) k (g .state) p x h
+
+    go : {y : Found} → SmallestIs (size tb u k) lo (g .a) y → Worked tb n lo k g (settled tb n (g .a) k u y)
+    go (all-zero z) = absurd (some .2 (z (some .0) (some .1)))
+    go (is-smallest q s) = record {
+      left = q;
+      active = s .within;
+      filled = s .filled;
+      only = λ c j d. eliminate-alone tb lo (g .a) k (g .state) q c (s .within) j d (s .filled);
+      result = refl;
+    }

@@ -1,0 +1,46 @@
+-- Lists made from a function of the index, and the grid of a matrix, row after row.
+use mathlib.Core.Path.{_≡_, refl, _∙_, ap, ap₂}
+use mathlib.Core.List.{List, [], _∷_, map}
+use Prim.Native.Nat.{ℕ, zero, suc, _+_, _*_, _≤_, _<_}
+use native.Mathlib.Omega.{arith}
+use native.Mathlib.Nat.{mul-le-mul}
+use lib.ListN.{length, getD}
+use lib.IntN.{ℤ, pos}
+use Rattle.whole.specs.Lists.{nth, tab, join}
+use Rattle.whole.specs.Matrix.{Matrix}
+use Rattle.whole.proofs.Lists.{length-tab, nth-tab, length-join, join-at, lists-same}
+use Rattle.rules.specs.Calls.{grid}
+
+-- List·getD-map of lib.ListN, for an index in the list and any two defaults
+pub getD-map {ℓ κ} : {A : Type ℓ} {B : Type κ} (f : A → B) (xs : List A) (i : ℕ) (a : A) (b : B) → i < length xs
+    → getD (map f xs) i b ≡ f (getD xs i a)
+getD-map f [] i a b h = absurd (omega arith)
+getD-map f (x ∷ xs) zero a b h = refl
+getD-map f (x ∷ xs) (suc i) a b h = getD-map f xs i a b (omega arith)
+
+pub tab-cong {ℓ} : {A : Type ℓ} (n : ℕ) (f g : ℕ → A) → ((i : ℕ) → i < n → f i ≡ g i) → tab n f ≡ tab n g
+tab-cong zero f g h = refl
+tab-cong (suc n) f g h = ap₂ _∷_ (h 0 (omega arith)) (tab-cong n (λ i. f (suc i)) (λ i. g (suc i)) (λ i l. h (suc i) (omega arith)))
+
+-- ---- grids, and such lists read as a matrix of n columns
+abbrev pub table : (n : ℕ) → List ℤ → Matrix
+table n xs i j = nth xs (i * n + j)
+
+pub grid-cong : (m n : ℕ) (A B : Matrix) → ((i j : ℕ) → i < m → j < n → A i j ≡ B i j) → grid m n A ≡ grid m n B
+grid-cong m n A B h =
+    ap join (tab-cong m (λ i. tab n (λ j. A i j)) (λ i. tab n (λ j. B i j)) (λ i a. tab-cong n (λ j. A i j) (λ j. B i j) (λ j b. h i j a b)))
+
+pub length-grid : (m n : ℕ) (A : Matrix) → length (grid m n A) ≡ m * n
+length-grid m n A = length-join n m (λ i. tab n (λ j. A i j)) (λ i a. length-tab n (λ j. A i j))
+
+pub grid-size : {m n a b : ℕ} → m ≤ a → n ≤ b → (A : Matrix) → length (grid m n A) ≤ a * b
+grid-size {m} {n} h g A = omega (arith, length-grid m n A, mul-le-mul h g)
+
+pub table-grid : (m n : ℕ) (A : Matrix) (i j : ℕ) → i < m → j < n → table n (grid m n A) i j ≡ A i j
+table-grid m n A i j a b =
+    join-at n m (λ i. tab n (λ j. A i j)) (pos 0) (λ i a. length-tab n (λ j. A i j)) i j a b
+    ∙ nth-tab n (λ j. A i j) j (pos 0) b
+
+pub grid-of-table : (m n : ℕ) (xs : List ℤ) → length xs ≡ m * n → grid m n (table n xs) ≡ xs
+grid-of-table m n xs e =
+    lists-same m n (grid m n (table n xs)) xs (pos 0) (length-grid m n (table n xs)) e (λ i j a b. table-grid m n (table n xs) i j a b)

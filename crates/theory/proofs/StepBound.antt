@@ -1,0 +1,191 @@
+-- How many steps the run takes at most, where no value passes M: each repetition of (A) halves an entry, which has at most 31 bits.
+use mathlib.Core.Path.{_≡_, refl, ap}
+use mathlib.Core.Logic.{_≢_}
+use mathlib.Core.Bool.{Bool, true, false}
+use Prim.Native.Nat.{ℕ, zero, suc, _+_, _*_, _-_, _≤_, _<_}
+use native.Mathlib.Omega.{arith}
+use native.Mathlib.Nat.{suc-mul}
+use lib.Dec.{eqb}
+use lib.IntN.{ℤ, pos, negℤ}
+use lib.Signed.{ltZ}
+use Rattle.whole.specs.Division.{floorZ}
+use Rattle.whole.proofs.Tests.{Test, pass, fail, lt?}
+use Rattle.rules.specs.Limits.{M, isZero}
+use Rattle.rules.specs.Search.{Found, none, found, total, each}
+use Rattle.rules.specs.Steps.{State, Table, onV, get, swapStep, negateStep, addStep}
+use Rattle.rules.specs.Stages.{size, Next, done, adds, next, repeatA, eliminate, reduce, bring, makePositive, settle, Progress, settled, row, rows, pivotRow, reduceFirst, stage3}
+use Rattle.theory.proofs.ExtraTests.{false-of}
+use Rattle.theory.proofs.Search.{total-less, SmallestIs, all-zero, is-smallest, smallest-is}
+use Rattle.theory.proofs.StepLines.{swap-steps, negate-steps, add-steps}
+use Rattle.theory.proofs.Moves.{add}
+use Rattle.theory.proofs.Sequence.{begin, then, follow}
+use Rattle.theory.proofs.Eliminate.{size-in, size-off, Adds, once}
+use Rattle.theory.proofs.Repetition.{adds-is, size-halves}
+use Rattle.theory.proofs.Parts.{repeatA-keeps}
+use Rattle.theory.proofs.Flag.{Over, swap-over, negate-over, add-over, settle-over, rows-over}
+use Rattle.theory.proofs.Range.{Fine, steps-fine, fine-get}
+use Rattle.theory.proofs.Stage.{RowsDone, Advanced, row-is}
+use Rattle.theory.proofs.Bits.{bits, bits-le, bits-half}
+
+-- the bits of the active entries of row k
+unfoldable pub rowBits : Table → (lo a k : ℕ) → State → ℕ
+rowBits tb lo a k u = total (λ c. bits 31 (size tb u k c)) lo a
+
+total-le : (f : ℕ → ℕ) (lo hi : ℕ) → ((c : ℕ) → f c ≤ 31) → total f lo hi ≤ 31 * (hi - lo)
+unfolding total
+total-le f lo zero h = omega arith
+total-le f lo (suc c) h = go (lt? c lo) (total-le f lo c h)
+  where
+    go : {b : Bool} → Test (c < lo) (lo ≤ c) b → total f lo c ≤ 31 * (c - lo) → _≤_ (elim b [ true ↦ 0 | false ↦ total f lo c + f c ]) (31 * (suc c - lo))
+    go (pass k) r = omega arith
+    go (fail k) r = omega (arith, h c)
+
+pub rowBits-le : (tb : Table) (lo a k : ℕ) (u : State) → rowBits tb lo a k u ≤ 31 * (a - lo)
+unfolding rowBits
+rowBits-le tb lo a k u = total-le (λ c. bits 31 (size tb u k c)) lo a (λ c. bits-le 31 (size tb u k c))
+
+-- ---- (A)
+-- a flag that is not set after a part was not set before it
+not-over : (u w : State) → (Over u → Over w) → w .over ≡ false → u .over ≡ false
+not-over u w h e = false-of (u .over) (w .over) h e
+
+module _ (tb : Table) (n lo a k : ℕ) where
+  -- a step of (A) takes at least one bit away
+  pub rowBits-fall : (u : State) (p j : ℕ) (q : ℤ) → next tb lo a k u ≡ adds p j q → size tb u k j ≤ M
+      → rowBits tb lo a k (addStep p j q u) < rowBits tb lo a k u
+  unfolding rowBits
+  rowBits-fall u p j q e h = total-less lo (λ c. bits 31 (size tb u k c)) (λ c. bits 31 (size tb (addStep p j q u) k c)) a j
+      (adds-is tb lo a k u p j q e .active)
+      (bits-half 30 (size tb (addStep p j q u) k j) (size tb u k j) (size-halves tb lo a k u p j q e) (omega arith))
+      (λ c i d. ap (bits 31) (size-off tb k u p j q c d))
+
+  step-fine : (u : State) (p j : ℕ) (q : ℤ) → Adds tb lo a k u p j q → Fine n u → Fine n (addStep p j q u)
+  step-fine u p j q h f =
+      steps-fine (then begin (add p j q (record { low = omega arith; high = there p (h .pivot .filled) }) (there j (h .filled)) (h .apart))) f
+    where
+      there : (c : ℕ) → size tb u k c ≢ 0 → c < n
+      there c d = omega (arith, size-in tb u k c d, f .lines)
+
+  repeatA-steps : (times : ℕ) (u : State) → Fine n u → repeatA times tb lo a k u .over ≡ false
+      → repeatA times tb lo a k u .steps ≤ u .steps + rowBits tb lo a k u
+  unfolding repeatA size
+  repeatA-steps zero u f e = omega arith
+  repeatA-steps (suc times) u f e = go (next tb lo a k u) refl e (repeatA-steps times)
+    where
+      go : (x : Next) → next tb lo a k u ≡ x → once times tb lo a k u x .over ≡ false
+          → ((w : State) → Fine n w → repeatA times tb lo a k w .over ≡ false → repeatA times tb lo a k w .steps ≤ w .steps + rowBits tb lo a k w)
+          → once times tb lo a k u x .steps ≤ u .steps + rowBits tb lo a k u
+      go done h o r = omega arith
+      go (adds p j q) h o r = omega (arith, r w (step-fine u p j q (adds-is tb lo a k u p j q h) f) o, add-steps p j q u, rowBits-fall u p j q h small)
+        where
+          w : State
+          w = addStep p j q u
+
+          clear-after : w .over ≡ false
+          clear-after = not-over w (repeatA times tb lo a k w) (repeatA-keeps Over swap-over negate-over add-over times tb lo a k w) o
+
+          small : size tb u k j ≤ M
+          small = fine-get n u f (not-over u w (add-over p j q u) clear-after) tb k j
+
+  pub eliminate-steps : (u : State) → Fine n u → eliminate tb lo a k u .over ≡ false → eliminate tb lo a k u .steps ≤ u .steps + 31 * (a - lo)
+  unfolding eliminate
+  eliminate-steps u f e = omega (arith, repeatA-steps (total (size tb u k) lo a) u f e, rowBits-le tb lo a k u)
+
+-- ---- (B)
+reduce-steps : (tb : Table) (k b c : ℕ) (u : State) → reduce tb k b c u .steps ≤ suc (u .steps)
+unfolding reduce
+reduce-steps tb k b c u = go (isZero z)
+  where
+    z : ℤ
+    z = negℤ (floorZ (get tb u k c) (get tb u k b))
+
+    go : (x : Bool) → (elim x as (λ _. State) [ true ↦ u | false ↦ addStep b c z u ]) .steps ≤ suc (u .steps)
+    go true = omega arith
+    go false = omega (arith, add-steps b c z u)
+
+reduces-steps : (tb : Table) (k b lo hi : ℕ) (u : State) → each (reduce tb k b) lo hi u .steps ≤ u .steps + (hi - lo)
+unfolding each
+reduces-steps tb k b lo zero u = omega arith
+reduces-steps tb k b lo (suc c) u = go (lt? c lo) (reduces-steps tb k b lo c u)
+  where
+    w : State
+    w = each (reduce tb k b) lo c u
+
+    go : {x : Bool} → Test (c < lo) (lo ≤ c) x → w .steps ≤ u .steps + (c - lo)
+        → (elim x as (λ _. State) [ true ↦ u | false ↦ reduce tb k b c w ]) .steps ≤ u .steps + (suc c - lo)
+    go (pass h) r = omega arith
+    go (fail h) r = omega (arith, reduce-steps tb k b c w)
+
+bring-steps : (p b : ℕ) (u : State) → bring p b u .steps ≤ suc (u .steps)
+unfolding bring
+bring-steps p b u = go (eqb p b)
+  where
+    go : (x : Bool) → (elim x as (λ _. State) [ true ↦ u | false ↦ swapStep p b u ]) .steps ≤ suc (u .steps)
+    go true = omega arith
+    go false = omega (arith, swap-steps p b u)
+
+makePositive-steps : (tb : Table) (k b : ℕ) (u : State) → makePositive tb k b u .steps ≤ suc (u .steps)
+unfolding makePositive
+makePositive-steps tb k b u = go (ltZ (get tb u k b) (pos 0))
+  where
+    go : (x : Bool) → (elim x as (λ _. State) [ true ↦ negateStep b u | false ↦ u ]) .steps ≤ suc (u .steps)
+    go true = omega (arith, negate-steps b u)
+    go false = omega arith
+
+pub settle-steps : (tb : Table) (n k p b : ℕ) (u : State) → settle tb n k p b u .steps ≤ u .steps + (2 + (n - suc b))
+unfolding settle
+settle-steps tb n k p b u = omega (
+  arith,
+  bring-steps p b u,
+  makePositive-steps tb k b (bring p b u),
+  reduces-steps tb k b (suc b) n (makePositive tb k b (bring p b u)),
+)
+
+-- ---- rows
+module _ (tb : Table) (n lo : ℕ) where
+  pub row-steps : (k : ℕ) (g : Progress) → g .a ≤ n → Fine n (g .state) → row tb n lo k g .state .over ≡ false
+      → row tb n lo k g .state .steps ≤ g .state .steps + (31 * (n - lo) + 2)
+  unfolding row
+  row-steps k g fit f o = go (smallest-is (size tb u k) lo (g .a)) o
+    where
+      u : State
+      u = eliminate tb lo (g .a) k (g .state)
+
+      go : {x : Found} → SmallestIs (size tb u k) lo (g .a) x → settled tb n (g .a) k u x .state .over ≡ false
+          → settled tb n (g .a) k u x .state .steps ≤ g .state .steps + (31 * (n - lo) + 2)
+      go (all-zero z) o = omega (arith, eliminate-steps tb n lo (g .a) k (g .state) f o)
+      go (is-smallest p s) o = omega (
+        arith,
+        s .within .low,
+        s .within .high,
+        settle-steps tb n k p (g .a - 1) u,
+        eliminate-steps tb n lo (g .a) k (g .state) f (not-over u (settle tb n k p (g .a - 1) u) (settle-over tb n k p (g .a - 1) u) o),
+      )
+
+  pub rows-steps : (m k : ℕ) → k ≤ m → (g : Progress) → RowsDone tb n lo m k (g .state) (g .a) → Fine n (g .state) → rows tb n lo k g .state .over ≡ false
+      → rows tb n lo k g .state .steps ≤ g .state .steps + k * (31 * (n - lo) + 2)
+  unfolding rows
+  rows-steps m zero h g v f o = omega arith
+  rows-steps m (suc k) h g v f o =
+      let w : Progress = row tb n lo k g in
+      let d : Advanced tb n lo m k g w = row-is tb n lo m k h g v in
+      let f₂ : Fine n (w .state) = steps-fine (follow (omega arith) begin (d .moves)) f in
+      let o₂ : w .state .over ≡ false = not-over (w .state) (rows tb n lo k w .state) (rows-over tb n lo k w) o in
+      omega (arith, suc-mul k (31 * (n - lo) + 2), row-steps k g (v .high) f o₂, rows-steps m k (omega arith) w (d .stands) f₂ o)
+
+-- ---- stage 3
+pub stage3-steps : (n r c : ℕ) (u : State) → stage3 n r c u .steps ≤ u .steps + (c - r) * r
+unfolding stage3
+stage3-steps n r zero u = omega arith
+stage3-steps n r (suc c) u = go (lt? c r) (stage3-steps n r c)
+  where
+    first : (x : Found) → reduceFirst r c u x .steps ≤ u .steps + r
+    first none = omega arith
+    first (found k) = omega (arith, reduces-steps onV k c 0 r u)
+
+    go : {b : Bool} → Test (c < r) (r ≤ c) b → ((w : State) → stage3 n r c w .steps ≤ w .steps + (c - r) * r)
+        → (elim b as (λ _. State) [ true ↦ u | false ↦ stage3 n r c (reduceFirst r c u (pivotRow n c u)) ]) .steps ≤ u .steps + (suc c - r) * r
+    go (pass h) rest = omega arith
+    go (fail h) rest =
+        let e : suc c - r ≡ suc (c - r) = omega arith in
+        rw e (omega (arith, suc-mul (c - r) r, first (pivotRow n c u), rest (reduceFirst r c u (pivotRow n c u))))
