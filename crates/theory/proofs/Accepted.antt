@@ -42,11 +42,11 @@ pub record AcceptedFormula (P : Problem) (f : Formula) : Type 0 where
   pub within : (t g : ℕ) → t < terms f → g < d P (run P) → natAbs (translated P (run P) (term P f t) g) ≤ M
 
 -- ---- the checks one after the other
-abbrev AllPass : List Check → Type 0
+abbrev pub AllPass : List Check → Type 0
 AllPass [] = Unit {0}
 AllPass (c ∷ cs) = (c .fault ≡ none) × AllPass cs
 
-all-pass : (cs : List Check) → verdict cs ≡ taken → AllPass cs
+pub all-pass : (cs : List Check) → verdict cs ≡ taken → AllPass cs
 all-pass [] e = tt
 all-pass (c ∷ cs) e = go (c .fault) (all-pass cs) e
   where
@@ -55,12 +55,12 @@ all-pass (c ∷ cs) e = go (c .fault) (all-pass cs) e
     go none rest e = (refl, rest e)
     go (found place) rest e = let z : _≡_ {A = ℕ} 0 1 = cc in absurd (omega arith)
 
-unless-none : (b : Bool) → unless b ≡ none → b ≡ true
+pub unless-none : (b : Bool) → unless b ≡ none → b ≡ true
 unless-none true e = refl
 unless-none false e = let z : _≡_ {A = ℕ} 0 1 = cc in absurd (omega arith)
 
 -- all of a list passes a test; past its end nth is 0
-none-out : (good : ℤ → Bool) → good (pos 0) ≡ true → (xs : List ℤ) → firstOut good xs ≡ none → (i : ℕ) → good (nth xs i) ≡ true
+pub none-out : (good : ℤ → Bool) → good (pos 0) ≡ true → (xs : List ℤ) → firstOut good xs ≡ none → (i : ℕ) → good (nth xs i) ≡ true
 unfolding firstOut
 none-out good z xs e i = go (decLt i (length xs))
   where
@@ -76,12 +76,12 @@ le-of-leb a b e = passed (le? a b) e
 eq-of-eqb : (a b : ℕ) → eqb a b ≡ true → a ≡ b
 eq-of-eqb a b e = passed (eq? a b) e
 
-between : (lo hi z : ℤ) → within lo hi z ≡ true → (lo ≤ℤ z) × (z ≤ℤ hi)
+pub between : (lo hi z : ℤ) → within lo hi z ≡ true → (lo ≤ℤ z) × (z ≤ℤ hi)
 between lo hi z e =
     let a = and-true (leZ lo z) (leZ z hi) e in
     (leZ-yes (rw (a .0) tt), leZ-yes (rw (a .1) tt))
 
-small : (k : ℕ) (z : ℤ) → within (negℤ (pos k)) (pos k) z ≡ true → natAbs z ≤ k
+pub small : (k : ℕ) (z : ℤ) → within (negℤ (pos k)) (pos k) z ≡ true → natAbs z ≤ k
 small k z e =
     let a = between (negℤ (pos k)) (pos k) z e in
     omega (zarith, a .0, a .1, parts z, P-neg (pos k), N-neg (pos k))
@@ -112,14 +112,14 @@ problem-accepted P sizes fits moduli entries =
     in-range i = between (pos 0) (pos 1000) (modulus P i) (none-out modulusInRange refl (P .moduli) moduli i)
 
 -- ---- 6
-exponents-small : (es : List ℤ) → exponentsCheck es .fault ≡ none → (i : ℕ) → natAbs (nth es i) ≤ 10_000
+pub exponents-small : (es : List ℤ) → exponentsCheck es .fault ≡ none → (i : ℕ) → natAbs (nth es i) ≤ 10_000
 exponents-small es e i = small 10_000 (nth es i) (none-out exponentInRange refl es e i)
 
 -- ---- 8 and 9
-abbrev TermAccepted : Problem → Run → (ℕ → ℤ) → Type 0
+abbrev pub TermAccepted : Problem → Run → (ℕ → ℤ) → Type 0
 TermAccepted P u v = Free P v × ((g : ℕ) → g < d P u → natAbs (translated P u v g) ≤ M)
 
-term-accepted : (P : Problem) (u : Run) (v : ℕ → ℤ) → termRefused P u v ≡ false → TermAccepted P u v
+pub term-accepted : (P : Problem) (u : Run) (v : ℕ → ℤ) → termRefused P u v ≡ false → TermAccepted P u v
 unfolding passes
 term-accepted P u v e = (
   free-of-isFree P v (not-false (isFree P v) (a .0)),

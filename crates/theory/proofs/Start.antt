@@ -17,19 +17,19 @@ use Rattle.theory.proofs.StepLines.{count}
 use Rattle.theory.proofs.Lines.{Shape}
 use Rattle.theory.proofs.Holds.{Holds}
 
-nth-zeros : (n r : ℕ) → nth (replicate n (pos 0)) r ≡ pos 0
+pub nth-zeros : (n r : ℕ) → nth (replicate n (pos 0)) r ≡ pos 0
 nth-zeros zero r = refl
 nth-zeros (suc n) zero = refl
 nth-zeros (suc n) (suc r) = nth-zeros n r
 
-nth-unit : (n i r : ℕ) → i < n → nth (unit n i) r ≡ δ i r
+pub nth-unit : (n i r : ℕ) → i < n → nth (unit n i) r ≡ δ i r
 nth-unit zero i r h = absurd (omega arith)
 nth-unit (suc n) zero zero h = refl
 nth-unit (suc n) zero (suc r) h = rw (eqb·zero-suc r) (nth-zeros n r)
 nth-unit (suc n) (suc i) zero h = rw (eqb·suc-zero i)
 nth-unit (suc n) (suc i) (suc r) h = rw (eqb·suc-suc i r) (nth-unit n i r (omega arith))
 
-length-unit : (n i : ℕ) → length (unit n i) ≡ n
+pub length-unit : (n i : ℕ) → length (unit n i) ≡ n
 length-unit zero i = refl
 length-unit (suc n) zero = ap suc (length-replicate n (pos 0))
 length-unit (suc n) (suc i) = ap suc (length-unit n i)

@@ -1,0 +1,70 @@
+-- The call `build`: from the answer of checks 1 to 5, a refusal as it stands, or what the build then comes to.
+use mathlib.Core.Path.{_≡_, refl, sym, _∙_}
+use mathlib.Core.Logic.{_≢_}
+use mathlib.Core.Bool.{Bool, true, _&&_, and-true, and-assoc}
+use mathlib.Core.List.{List, [], _∷_, _++_}
+use Prim.Native.Nat.{ℕ}
+use lib.Dec.{leb}
+use lib.ListN.{length}
+use lib.IntN.{ℤ}
+use borrow.Author.Tests.{leb-true}
+use Rattle.rules.specs.Limits.{roomH, roomV, roomW}
+use Rattle.rules.specs.Problem.{Problem}
+use Rattle.rules.specs.Stages.{run}
+use Rattle.rules.specs.Calls.{Check, verdict, rangeCheck, problemFits, buildVerdict, buildOf, built}
+use Rattle.theory.proofs.MoreTests as Tests
+use Rattle.scaling.specs.declared.BuildAnswer.{BuildAnswer}
+use Rattle.scaling.specs.Problem.{problemOf, WellFormed}
+use Rattle.scaling.specs.Checks.{Says, given, problemChecks}
+use Rattle.scaling.specs.Answers.{Builds, RoomToBuild}
+use Rattle.scaling.proofs.Verdicts.{goes-on, stays, says-taken, says-refused, Passed, problem-passed}
+
+-- the outputs' lengths, as the code takes them together
+abbrev pub roomy : (h v w : List ℤ) → Bool
+roomy h v w = leb roomH (length h) && (leb roomV (length v) && leb roomW (length w))
+
+-- what the code knows once the checks have answered
+pub record Checked (m n : ℕ) (matrix moduli h v w : List ℤ) (outputs : Bool) (number place : ℕ) : Type 0 where
+  pub room : outputs ≡ roomy h v w
+  pub says : Says number place (verdict (problemChecks (given m n matrix moduli) (problemFits (given m n matrix moduli) && true) outputs))
+
+module _ {m n : ℕ} {matrix moduli h v w : List ℤ} {outputs : Bool} {number place : ℕ} (k : Checked m n matrix moduli h v w outputs number place) where
+  abbrev P : Problem
+  P = given m n matrix moduli
+
+  abbrev checks : List Check
+  checks = problemChecks P (problemFits P && true) outputs
+
+  build-is : buildOf P h v w ≡ built P h v w (verdict (checks ++ rangeCheck (run P) ∷ []))
+  unfolding buildOf buildVerdict
+  build-is = rw (and-true (problemFits P), k .room, and-assoc (leb roomH (length h)) (leb roomV (length v)) (leb roomW (length w)))
+
+  pub build-refused : number ≢ 0 → Builds (buildOf P h v w) (record { number = number; place = place; rank = 0; moduli = 0; steps = 0 }) h v w
+  build-refused d = rw (build-is, stays checks (rangeCheck (run P) ∷ []) number place (says-refused (k .says) d)) (record {
+    number = refl;
+    place = refl;
+    rank = refl;
+    moduli = refl;
+    steps = refl;
+    h = refl;
+    v = refl;
+    w = refl;
+  })
+
+  module _ (e : number ≡ 0) where
+    passed : Passed m n matrix moduli true outputs
+    passed = problem-passed m n matrix moduli true outputs (says-taken (k .says) e)
+
+    pub well-formed : WellFormed (problemOf n matrix moduli)
+    well-formed = passed .wellFormed
+
+    pub room-to-build : RoomToBuild h v w
+    room-to-build =
+        let all = Tests.and-true (leb roomH (length h)) (leb roomV (length v) && leb roomW (length w)) (sym (k .room) ∙ passed .room) in
+        let rest = Tests.and-true (leb roomV (length v)) (leb roomW (length w)) (all .1) in
+        record { h = leb-true roomH (length h) (all .0); v = leb-true roomV (length v) (rest .0); w = leb-true roomW (length w) (rest .1) }
+
+    pub build-passed : {r : BuildAnswer} {h₁ v₁ w₁ : List ℤ}
+        → Builds (built (problemOf n matrix moduli) h v w (verdict (rangeCheck (run (problemOf n matrix moduli)) ∷ []))) r h₁ v₁ w₁
+        → Builds (buildOf P h v w) r h₁ v₁ w₁
+    build-passed b = rw (build-is, goes-on checks (rangeCheck (run P) ∷ []) (says-taken (k .says) e), passed .same) b

@@ -1,0 +1,74 @@
+-- The proofs of the functions stand beside this file, in folders that mirror src/. The general modules, each standing on those above it:
+-- ---- the column steps
+--     Values        single values: what fits, what is stored, what a test says, the floored quotient by signs
+--     Loops         the searches of the definitions, index by index
+--     Places        places in a flat list: which are apart, which are in it, where a turned entry stood
+--     Turns         what the lists of specs/Flat hold after their turns
+--     Picks         the lines of a flat list before and after a loop, and what an addition's flag says
+--     State         the code's state read as the definition's: its lines, its entries, the bounds of its places
+--     Steps         the three steps and the reordering of the code are the definition's
+pub mod Values
+pub mod Loops
+pub mod Places
+pub mod Turns
+pub mod Picks
+pub mod State
+pub mod Steps
+-- ---- the stages
+--     Hits          what a search has found is there, what it has not found is nowhere
+--     TableRow      a row of the table that a stage looks at, in the flat list: where it lies, its entries, their size
+--     Tracking      how an addition counts, and the two ways in which a state tracks one
+--     Searched      (A)'s two searches by the code, and what (A) does next
+--     Repeating     a repetition of (A): what it asks, where it stops, how it goes on; the first one
+--     Reducing      the parts of (B): the pivot's column to its place, its sign, one column into range
+--     Settling      columns into range one after the other, and the whole of (B)
+--     Rowing        one row
+--     RowScan       the scan of a row for its smallest entry
+--     AllRows       all rows of a stage
+--     ThirdStage    stage 3
+pub mod Hits
+pub mod TableRow
+pub mod Tracking
+pub mod Searched
+pub mod Repeating
+pub mod Reducing
+pub mod Settling
+pub mod Rowing
+pub mod RowScan
+pub mod AllRows
+pub mod ThirdStage
+-- ---- the checks, and lists that are filled one entry after the other
+--     Verdicts      the verdict of checks in two parts, and what passed checks say
+--     Filling       writing one entry after the other into a lent list
+pub mod Verdicts
+pub mod Filling
+-- ---- the build
+--     Listing       the rows with a modulus, one modulus after the other
+--     Diagonal      the identity, one entry of the diagonal after the other
+--     MatrixC       the entries of C as the code finds them, and bounds of a well-formed problem
+--     Starting      the start is the definition's
+--     Running       the run is the definition's
+--     Building      from the run to H, V and W as they are lent out, or refusal 7
+--     BuildCall     the call, from its checks on
+pub mod Listing
+pub mod Diagonal
+pub mod MatrixC
+pub mod Starting
+pub mod Running
+pub mod Building
+pub mod BuildCall
+-- ---- weights and translation
+--     Sums          sums of products, and that their beginnings fit
+--     Weighing      the weights
+--     KAndV         k followed by v
+--     WeighCall     the call that weighs, from its checks on
+--     GridRows      grids, one row after the other
+--     Translating   one term and all terms
+--     TranslateCall the call that translates, from its checks on
+pub mod Sums
+pub mod Weighing
+pub mod KAndV
+pub mod WeighCall
+pub mod GridRows
+pub mod Translating
+pub mod TranslateCall

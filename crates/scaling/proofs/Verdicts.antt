@@ -1,0 +1,153 @@
+-- The verdict of a list of checks in two parts, what an answer of the code says of a verdict, and what holds once checks 1 to 5, and 6, are passed.
+use mathlib.Core.Path.{_≡_, refl, sym, _∙_, ap}
+use mathlib.Core.Logic.{_≢_}
+use mathlib.Core.Bool.{Bool, true, _&&_}
+use mathlib.Core.List.{List, [], _∷_, _++_}
+use Prim.Native.Nat.{ℕ, _*_, _≤_}
+use native.Mathlib.Omega.{arith}
+use lib.Dec.{leb, eqb}
+use lib.ListN.{length}
+use lib.IntN.{ℤ, pos, natAbs}
+use lib.Signed.{_≤ℤ_}
+use borrow.Author.Tests.{leb-true, eqb-true}
+use Rattle.whole.specs.Lists.{nth}
+use Rattle.whole.proofs.Order.{zarith, parts}
+use Rattle.rules.specs.Limits.{sizesInRange, modulusInRange, entryInRange}
+use Rattle.rules.specs.Search.{Found, none, found}
+use Rattle.rules.specs.Problem.{Problem}
+use Rattle.rules.specs.Calls.{Check, Verdict, taken, refused, verdict, problemFits, exponentsCheck}
+use Rattle.theory.proofs.MoreTests.{and-true}
+use Rattle.theory.proofs.Accepted.{all-pass, unless-none, none-out, between, small, exponents-small}
+use Rattle.scaling.specs.Problem.{problemOf, WellFormed}
+use Rattle.scaling.specs.Checks.{Says, takes, refuses, given, problemChecks}
+
+-- ---- a list of checks in two parts
+pub goes-on : (cs ds : List Check) → verdict cs ≡ taken → verdict (cs ++ ds) ≡ verdict ds
+goes-on [] ds e = refl
+goes-on (c ∷ cs) ds e = go (c .fault) (goes-on cs ds) e
+  where
+    go : (x : Found) → (verdict cs ≡ taken → verdict (cs ++ ds) ≡ verdict ds)
+        → elim x [ none ↦ verdict cs | found place ↦ refused (c .number) place ] ≡ taken
+        → _≡_ {A = Verdict} (elim x [ none ↦ verdict (cs ++ ds) | found place ↦ refused (c .number) place ]) (verdict ds)
+    go none rest e = rest e
+    go (found place) rest e = let z : _≡_ {A = ℕ} 0 1 = cc in absurd (omega arith)
+
+pub stays : (cs ds : List Check) (number place : ℕ) → verdict cs ≡ refused number place → verdict (cs ++ ds) ≡ refused number place
+stays [] ds number place e = let z : _≡_ {A = ℕ} 0 1 = cc in absurd (omega arith)
+stays (c ∷ cs) ds number place e = go (c .fault) (stays cs ds number place) e
+  where
+    go : (x : Found) → (verdict cs ≡ refused number place → verdict (cs ++ ds) ≡ refused number place)
+        → elim x [ none ↦ verdict cs | found at ↦ refused (c .number) at ] ≡ refused number place
+        → _≡_ {A = Verdict} (elim x [ none ↦ verdict (cs ++ ds) | found at ↦ refused (c .number) at ]) (refused number place)
+    go none rest e = rest e
+    go (found at) rest e = e
+
+-- ---- a number and a place
+pub says-taken : {number place : ℕ} {v : Verdict} → Says number place v → number ≡ 0 → v ≡ taken
+says-taken (takes _ _) e = refl
+says-taken (refuses d) e = absurd (d e)
+
+pub says-refused : {number place : ℕ} {v : Verdict} → Says number place v → number ≢ 0 → v ≡ refused number place
+says-refused (takes e _) d = absurd (d e)
+says-refused (refuses _) d = refl
+
+-- a check with a fault decides, one without leaves it to the next
+pub refuses-here : (c : Check) (cs : List Check) (place : ℕ) → c .number ≢ 0 → c .fault ≡ found place → Says (c .number) place (verdict (c ∷ cs))
+refuses-here c cs place d e = rw e (refuses d)
+
+pub says-next : {number place : ℕ} (c : Check) (cs : List Check) → c .fault ≡ none → Says number place (verdict cs)
+    → Says number place (verdict (c ∷ cs))
+says-next c cs e x = rw e x
+
+-- ---- 1 and 2
+pub record Sizes (m n : ℕ) : Type 0 where
+  pub m-low : 1 ≤ m
+  pub m-high : m ≤ 8
+  pub n-low : 1 ≤ n
+  pub n-high : n ≤ 16
+
+pub sizes-passed : (m n : ℕ) → sizesInRange m n ≡ true → Sizes m n
+sizes-passed m n e =
+    let both = and-true (leb 1 m && leb m 8) (leb 1 n && leb n 16) e in
+    let rows = and-true (leb 1 m) (leb m 8) (both .0) in
+    let quantities = and-true (leb 1 n) (leb n 16) (both .1) in
+    record {
+      m-low = leb-true 1 m (rows .0);
+      m-high = leb-true m 8 (rows .1);
+      n-low = leb-true 1 n (quantities .0);
+      n-high = leb-true n 16 (quantities .1);
+    }
+
+pub lengths-passed : (P : Problem) → problemFits P ≡ true → (length (P .matrix) ≡ P .m * P .n) × (length (P .moduli) ≡ P .m)
+lengths-passed P e =
+    let both = and-true (eqb (length (P .matrix)) (P .m * P .n)) (eqb (length (P .moduli)) (P .m)) e in
+    (eqb-true (length (P .matrix)) (P .m * P .n) (both .0), eqb-true (length (P .moduli)) (P .m) (both .1))
+
+-- ---- 1 to 5, of a problem as it was given
+pub record Passed (m n : ℕ) (matrix moduli : List ℤ) (more outputs : Bool) : Type 0 where
+  pub wellFormed : WellFormed (problemOf n matrix moduli)
+  pub same : given m n matrix moduli ≡ problemOf n matrix moduli
+  pub also : more ≡ true
+  pub room : outputs ≡ true
+
+module _ (m n : ℕ) (matrix moduli : List ℤ) (more outputs : Bool) where
+  abbrev P : Problem
+  P = given m n matrix moduli
+
+  pub problem-passed : verdict (problemChecks P (problemFits P && more) outputs) ≡ taken → Passed m n matrix moduli more outputs
+  problem-passed e =
+      let a = all-pass (problemChecks P (problemFits P && more) outputs) e in
+      let sizes = sizes-passed m n (unless-none (sizesInRange m n) (a .0)) in
+      let inputs = and-true (problemFits P) more (unless-none (problemFits P && more) (a .1 .0)) in
+      let lengths = lengths-passed P (inputs .0) in
+      let modulusIn : (i : ℕ) → (pos 0 ≤ℤ nth moduli i) × (nth moduli i ≤ℤ pos 1000) =
+      λ i. between (pos 0) (pos 1000) (nth moduli i) (none-out modulusInRange refl moduli (a .1 .1 .1 .0) i) in
+      record {
+        wellFormed = record {
+          m-low = omega (arith, sizes .m-low);
+          m-high = omega (arith, sizes .m-high);
+          n-low = sizes .n-low;
+          n-high = sizes .n-high;
+          matrix = rw (lengths .1) (lengths .0);
+          moduli = refl;
+          entries = λ i. small 1000 (nth matrix i) (none-out entryInRange refl matrix (a .1 .1 .1 .1 .0) i);
+          low = λ i. modulusIn i .0;
+          high = λ i. omega (zarith, modulusIn i .0, modulusIn i .1, parts (nth moduli i));
+        };
+        same = ap (λ k. given k n matrix moduli) (sym (lengths .1));
+        also = inputs .1;
+        room = unless-none outputs (a .1 .1 .0);
+      }
+
+-- ---- 6
+pub exponents-passed : (es : List ℤ) → verdict (exponentsCheck es ∷ []) ≡ taken → (i : ℕ) → natAbs (nth es i) ≤ 10_000
+exponents-passed es e = exponents-small es (all-pass (exponentsCheck es ∷ []) e .0)
+
+-- ---- 1 to 6, which weighing and translation share, as the code takes them: 1 to 5, then 6; `rest` are the checks that follow
+pub record Answered (m n : ℕ) (matrix moduli es : List ℤ) (more outputs : Bool) (number place : ℕ) : Type 0 where
+  pub says : Says number place (verdict (problemChecks (given m n matrix moduli) (problemFits (given m n matrix moduli) && more) outputs))
+
+module _ {m n : ℕ} {matrix moduli es : List ℤ} {more outputs : Bool} {number place : ℕ}
+    (a : Answered m n matrix moduli es more outputs number place) where
+  abbrev five : List Check
+  five = problemChecks (given m n matrix moduli) (problemFits (given m n matrix moduli) && more) outputs
+
+  abbrev pub six : List Check → List Check
+  six rest = five ++ exponentsCheck es ∷ rest
+
+  pub refused-before : (rest : List Check) → number ≢ 0 → verdict (six rest) ≡ refused number place
+  refused-before rest d = stays five (exponentsCheck es ∷ rest) number place (says-refused (a .says) d)
+
+  module _ (e : number ≡ 0) where
+    pub passed : Passed m n matrix moduli more outputs
+    passed = problem-passed m n matrix moduli more outputs (says-taken (a .says) e)
+
+    module _ {bad at : ℕ} (x : Says bad at (verdict (exponentsCheck es ∷ []))) (rest : List Check) where
+      past : verdict (six rest) ≡ verdict (exponentsCheck es ∷ rest)
+      past = goes-on five (exponentsCheck es ∷ rest) (says-taken (a .says) e)
+
+      pub refused-at-6 : bad ≢ 0 → verdict (six rest) ≡ refused bad at
+      refused-at-6 d = past ∙ stays (exponentsCheck es ∷ []) rest bad at (says-refused x d)
+
+      pub past-6 : bad ≡ 0 → verdict (six rest) ≡ verdict rest
+      past-6 z = past ∙ goes-on (exponentsCheck es ∷ []) rest (says-taken x z)

@@ -1,0 +1,14 @@
+-- `formulas::wide` meets its contract: what fits 32 bits fits 64.
+use mir.Facts.{toZ-ofZ}
+use Rattle.scaling.proofs.Values.{widens, widened}
+use Rattle.scaling.proofs.formulas.wide.Statement.{statement}
+use Rattle.scaling.proofs.formulas.wide.Tie as tie
+
+cast-result : tie.Need-cast-result
+cast-result c = rw (toZ-ofZ (c .fits .x)) (widens (c .args .x) (c .fits .x))
+
+returns : tie.Need-returns
+returns c = widened (c .args .x) (c .fits .x)
+
+pub wide-spec : {M : Type 1} → statement M
+wide-spec = tie.close (tie.spec cast-result returns)

@@ -1,0 +1,77 @@
+-- `run::modulus_rows` meets its contract: after i turns the rows below i that have a modulus are listed.
+use mathlib.Core.Path.{_≡_, refl, sym, _∙_}
+use mathlib.Core.Logic.{⊎-elim}
+use Prim.Native.Nat.{_≤_, _-_}
+use native.Mathlib.Numerals.{add-one}
+use native.Mathlib.Omega.{arith}
+use borrow.Author.Needs.{needs}
+use lib.ListN.{length}
+use mir.Syntax.{w32}
+use mir.Facts.{toZ-ofZ}
+use Rattle.whole.specs.Lists.{nth}
+use Rattle.rules.specs.Limits.{isZero}
+use Rattle.theory.proofs.MoreTests.{not-true, not-false}
+use Rattle.scaling.proofs.Listing.{Listed, listed-none, listed-all, listed-passed, listed-with}
+use Rattle.scaling.proofs.run.modulus_rows.Statement.{statement}
+use Rattle.scaling.proofs.run.modulus_rows.Tie as tie
+
+abbrev Inv-loop : tie.InvT-loop
+Inv-loop n matrix moduli r₀ i₀ r i = (i ≤ length moduli) × Listed moduli i r
+
+abbrev μ-loop : tie.MeasureT-loop
+μ-loop n matrix moduli r₀ i₀ r i = length moduli - i
+
+loop-holds : tie.Need-loop-holds Inv-loop μ-loop
+loop-holds c = (omega arith, listed-none _ _ refl refl)
+
+mul-is-zero : tie.Need-mul-is-zero Inv-loop μ-loop
+mul-is-zero c = search needs
+
+shared-slice-copy-out-is-zero : tie.Need-shared-slice-copy-out-is-zero Inv-loop μ-loop
+shared-slice-copy-out-is-zero c = search needs
+
+is-zero-requires : tie.Need-is-zero-requires Inv-loop μ-loop
+is-zero-requires c κs = search needs
+
+with-requires : tie.Need-with-requires Inv-loop μ-loop
+with-requires c κs = omega arith
+
+add-i : tie.Need-add-i Inv-loop μ-loop
+add-i c = search needs
+
+loop-less : tie.Need-loop-less Inv-loop μ-loop
+loop-less c = search needs
+
+zero-test : (c : tie.Joined1 Inv-loop μ-loop)
+    → c .before .is-zero .result ≡ isZero (nth (c .before .before .before .before .before .args .moduli .now) (c .before .before .before .before .loop .i))
+zero-test c = rw (toZ-ofZ {w = w32} (record { sfits = c .before .before .is-zero-arg .given })) at (c .before .is-zero .ensures)
+
+loop-again : tie.Need-loop-again Inv-loop μ-loop
+loop-again c =
+    let l = c .before .before .before .before .loop in
+    let h = c .before .before .before .loop-test .taken in (
+      omega arith,
+      rw (add-one (l .i)) (⊎-elim
+          (λ w. rw (w .2) (listed-with (l .inv .1) h (sym (zero-test c) ∙ not-true _ (w .0 .taken)) (omega arith) (w .1 .ensures)))
+          (λ w. rw (w .1) (listed-passed (l .inv .1) h (sym (zero-test c) ∙ not-false _ (w .0 .left))))
+          (c .if1 .came)),
+    )
+
+returns : tie.Need-returns Inv-loop μ-loop
+returns c = listed-all (c .before .loop .inv .1) (omega arith) (c .before .before .pre) _ _
+
+pub modulus-rows-spec : {M : Type 1} → statement M
+modulus-rows-spec =
+    tie.close
+    (tie.spec
+    Inv-loop
+    μ-loop
+    loop-holds
+    mul-is-zero
+    shared-slice-copy-out-is-zero
+    is-zero-requires
+    with-requires
+    add-i
+    loop-less
+    loop-again
+    returns)

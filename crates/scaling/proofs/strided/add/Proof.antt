@@ -1,0 +1,159 @@
+-- `strided::add` meets its contract: after k turns the list is `addF` at k, and the flag is `addO` at k.
+use mathlib.Core.Path.{_≡_, refl, ap, sym, _∙_}
+use mathlib.Core.Bool.{Bool, _||_}
+use mathlib.Core.List.{List}
+use Prim.Native.Nat.{ℕ, _≤_, _<_, _-_, _+_, _*_}
+use native.Mathlib.Numerals.{add-one}
+use native.Mathlib.Omega.{arith}
+use borrow.Author.Needs.{needs}
+use lib.ListN.{length, set, length-set}
+use lib.IntN.{ℤ, _+ℤ_, _*ℤ_}
+use mir.Syntax.{w32, w64}
+use mir.Val.{toZ, ofZ}
+use mir.Facts.{toZ-ofZ}
+use Rattle.whole.specs.Lists.{nth}
+use Rattle.rules.specs.Limits.{beyond}
+use Rattle.scaling.specs.Flat.{addF, addO, keep, sumAt}
+use Rattle.scaling.proofs.strided.add.Statement.{statement}
+use Rattle.scaling.proofs.strided.add.Tie as tie
+
+abbrev Inv-loop : tie.InvT-loop
+Inv-loop a₀ to from stride count q over₀ k₀ a over k =
+    (k ≤ count) × (length a ≡ length a₀) × (a ≡ addF a₀ to from stride (toZ w64 q) k) × (over ≡ addO a₀ to from stride (toZ w64 q) k)
+
+abbrev μ-loop : tie.MeasureT-loop
+μ-loop a₀ to from stride count q over₀ k₀ a over k = count - k
+
+module _ (c : tie.In-loop Inv-loop μ-loop) where
+  to-in : c .before .before .args .to + c .before .loop .k * c .before .before .args .stride < length (c .before .before .args .a .now)
+  to-in = c .before .before .pre .0 .each (c .before .loop .k) (c .loop-test .taken)
+
+  from-in : c .before .before .args .from + c .before .loop .k * c .before .before .args .stride < length (c .before .before .args .a .now)
+  from-in = c .before .before .pre .1 .0 .each (c .before .loop .k) (c .loop-test .taken)
+
+loop-holds : tie.Need-loop-holds Inv-loop μ-loop
+unfolding addF addO
+loop-holds c = (omega arith, refl, refl, refl)
+
+mul-at : tie.Need-mul-at Inv-loop μ-loop
+mul-at c = let h = to-in c in omega arith
+
+add-at : tie.Need-add-at Inv-loop μ-loop
+add-at c = let h = to-in c in omega arith
+
+mul-y : tie.Need-mul-y Inv-loop μ-loop
+mul-y c = let h = from-in c in omega arith
+
+add-y : tie.Need-add-y Inv-loop μ-loop
+add-y c = let h = from-in c in omega arith
+
+mul-y-2 : tie.Need-mul-y-2 Inv-loop μ-loop
+mul-y-2 c = let h = from-in c in omega arith
+
+slice-copy-out-y : tie.Need-slice-copy-out-y Inv-loop μ-loop
+slice-copy-out-y c = let h = from-in c in omega arith
+
+mul-x : tie.Need-mul-x Inv-loop μ-loop
+mul-x c = let h = to-in (c .before) in omega arith
+
+slice-copy-out-x : tie.Need-slice-copy-out-x Inv-loop μ-loop
+slice-copy-out-x c = let h = to-in (c .before) in omega arith
+
+mix-requires : tie.Need-mix-requires Inv-loop μ-loop
+mix-requires c κs = let s = c .before .before .before .before in rw (toZ-ofZ (s .fits .q)) (s .pre .1 .1)
+
+stored-requires : tie.Need-stored-requires Inv-loop μ-loop
+stored-requires c κs = search needs
+
+beyond-requires : tie.Need-beyond-requires Inv-loop μ-loop
+beyond-requires c κs = search needs
+
+mul-s : tie.Need-mul-s Inv-loop μ-loop
+mul-s c = let h = to-in (c .before .before .before .before .before) in omega arith
+
+slice-set-from-s : tie.Need-slice-set-from-s Inv-loop μ-loop
+slice-set-from-s c = let h = to-in (c .before .before .before .before .before) in omega arith
+
+either-requires : tie.Need-either-requires Inv-loop μ-loop
+either-requires c κs = search needs
+
+add-k : tie.Need-add-k Inv-loop μ-loop
+add-k c = omega arith
+
+loop-less : tie.Need-loop-less Inv-loop μ-loop
+loop-less c = omega arith
+
+mixed : (q x y : ℤ) {z x′ y′ : ℤ} → z ≡ x′ +ℤ q *ℤ y′ → x′ ≡ x → y′ ≡ y → z ≡ x +ℤ q *ℤ y
+mixed q x y e f g = rw (e, f, g)
+
+-- the value of a turn, of the list as it is then
+value : (c : tie.After-mix Inv-loop μ-loop) → let i = c .before .before .before in let s = i .before .before in
+    toZ w64 (ofZ w64 (c .mix .result))
+    ≡ sumAt (toZ w64 (ofZ w64 (s .args .q))) (s .args .to + i .before .loop .k * s .args .stride)
+    (s .args .from + i .before .loop .k * s .args .stride) (i .before .loop .a)
+value c =
+    let s = c .before .before .before .before .before in
+    let l = c .before .before .before .before .loop in
+    mixed (toZ w64 (ofZ w64 (s .args .q))) (nth (l .a) (s .args .to + l .k * s .args .stride)) (nth (l .a) (s .args .from + l .k * s .args .stride))
+    (toZ-ofZ (record { sfits = c .mix .ok }) ∙ c .mix .ensures)
+    (toZ-ofZ {w = w32} (record { sfits = c .before .x .given })) (toZ-ofZ {w = w32} (record { sfits = c .before .before .y .given }))
+
+turn : (at from : ℕ) (q : ℤ) {a f : List ℤ} {s z : ℤ} → a ≡ f → s ≡ keep z → z ≡ sumAt q at from a → set a at s ≡ set f at (keep (sumAt q at from f))
+turn at from q e g h = rw (g, h, e)
+
+flag : (at from : ℕ) (q : ℤ) {a f : List ℤ} {z : ℤ} {r b o o′ : Bool} → a ≡ f → r ≡ b || o → b ≡ beyond z → z ≡ sumAt q at from a → o ≡ o′
+    → r ≡ beyond (sumAt q at from f) || o′
+flag at from q e r b h o = rw (r, b, h, e, o)
+
+loop-again : tie.Need-loop-again Inv-loop μ-loop
+unfolding addF addO
+loop-again c =
+    let m = c .before .before .before in
+    let l = m .before .before .before .before .loop in
+    let s = m .before .before .before .before .before in
+    let to = s .args .to + l .k * s .args .stride in
+    let from = s .args .from + l .k * s .args .stride in
+    let q = toZ w64 (ofZ w64 (s .args .q)) in (
+      omega arith,
+      length-set (l .a) _ _ ∙ l .inv .1,
+      turn to from q (l .inv .2) (toZ-ofZ {w = w32} (record { sfits = c .before .before .stored .ok }) ∙ c .before .before .stored .ensures) (value m)
+          ∙ sym (ap (addF (s .args .a .now) (s .args .to) (s .args .from) (s .args .stride) q) (add-one (l .k))),
+      flag to from q (l .inv .2) (c .either .ensures) (c .before .beyond .ensures) (value m) (l .inv .3)
+          ∙ sym (ap (addO (s .args .a .now) (s .args .to) (s .args .from) (s .args .stride) q) (add-one (l .k))),
+    )
+
+same-length : tie.Need-same-length Inv-loop μ-loop
+same-length c = search needs
+
+returns : tie.Need-returns Inv-loop μ-loop
+returns c =
+    let s = c .before .before in
+    let e : c .before .loop .k ≡ s .args .count = omega arith in
+    (rw (toZ-ofZ (s .fits .q), e) at (c .before .loop .inv .2), rw (toZ-ofZ (s .fits .q), e) at (c .before .loop .inv .3))
+
+pub add-spec : {M : Type 1} → statement M
+add-spec =
+    tie.close
+    (tie.spec
+    Inv-loop
+    μ-loop
+    loop-holds
+    mul-at
+    add-at
+    mul-y
+    add-y
+    mul-y-2
+    slice-copy-out-y
+    mul-x
+    slice-copy-out-x
+    mix-requires
+    stored-requires
+    beyond-requires
+    mul-s
+    slice-set-from-s
+    either-requires
+    add-k
+    loop-less
+    loop-again
+    same-length
+    returns)

@@ -1,0 +1,35 @@
+-- `Work::negate` meets its contract: the three loops together are the definition's step.
+use mathlib.Core.Path.{refl}
+use native.Mathlib.Omega.{arith}
+use borrow.Author.Needs.{needs}
+use Rattle.scaling.proofs.State.{Long, t-in, v-in, w-in, row-start}
+use Rattle.scaling.proofs.Steps.{negate-same}
+use Rattle.scaling.proofs.work.Work.negate.Statement.{statement}
+use Rattle.scaling.proofs.work.Work.negate.Tie as tie
+
+long : (s : tie.Start) → Long (s .args .t1)
+long s = record { t = search needs; v = search needs; w = search needs }
+
+negate-t-requires : tie.Need-negate-t-requires
+negate-t-requires c κs = let s = c .before in t-in (s .pre .0) (long s) (s .args .i) (s .pre .1 .i-in)
+
+negate-v-requires : tie.Need-negate-v-requires
+negate-v-requires c κs = let s = c .before .before .before in v-in (s .pre .0) (long s) (s .args .i) (s .pre .1 .i-in)
+
+mul-negate-v : tie.Need-mul-negate-v
+mul-negate-v c = let s = c .before .before .before .before .before in let h = row-start (s .pre .0) (s .args .i) (s .pre .1 .i-in) in omega arith
+
+negate-v-requires-2 : tie.Need-negate-v-requires-2
+negate-v-requires-2 c κs = let s = c .before .before .before .before .before in w-in (s .pre .0) (long s) (s .args .i) (s .pre .1 .i-in)
+
+add-self : tie.Need-add-self
+add-self c = search needs
+
+returns : tie.Need-returns
+returns c =
+    let s = c .before .before .before .before .before .before in
+    negate-same _ (s .pre .0) (long s) (s .args .i) (s .pre .1 .i-in)
+    (record { t = c .before .before .before .before .negate-t .ensures; v = c .before .before .negate-v .ensures; w = c .negate-v2 .ensures; steps = refl; over = refl })
+
+pub negate-spec : {M : Type 1} → statement M
+negate-spec = tie.close (tie.spec negate-t-requires negate-v-requires mul-negate-v negate-v-requires-2 add-self returns)

@@ -1,0 +1,67 @@
+-- The problem that a call's inputs say, and what is known of it once it has passed checks 1 to 5.
+use mathlib.Core.Path.{_≡_}
+use mathlib.Core.Bool.{Bool, true, false}
+use mathlib.Core.List.{List}
+use Prim.Native.Nat.{ℕ, suc, _+_, _*_, _/_, _%_, _<_, _≤_}
+use lib.ListN.{length, getD, set}
+use lib.IntN.{ℤ, pos, natAbs}
+use lib.Signed.{_≤ℤ_}
+use Rattle.whole.specs.Lists.{nth}
+use Rattle.whole.specs.Matrix.{δ}
+use Rattle.rules.specs.Problem.{Problem, modulusRows, s, N, C, columns}
+use Rattle.rules.specs.Steps.{State, start}
+use Rattle.rules.specs.Stages.{run}
+use Rattle.scaling.specs.declared.work.Work.{Work}
+use Rattle.scaling.specs.declared.run.ModulusRows.{ModulusRows}
+use Rattle.scaling.specs.declared.run.Outcome.{Outcome}
+use Rattle.scaling.specs.Join.{Tracks}
+
+-- there is a modulus for each row, so that the rows need not be counted apart
+abbrev pub problemOf : (n : ℕ) (matrix moduli : List ℤ) → Problem
+problemOf n matrix moduli = record { m = length moduli; n = n; matrix = matrix; moduli = moduli }
+
+-- within document 01's limits
+pub record WellFormed (P : Problem) : Type 0 where
+  pub m-low : 1 ≤ P .m
+  pub m-high : P .m ≤ 8
+  pub n-low : 1 ≤ P .n
+  pub n-high : P .n ≤ 16
+  pub matrix : length (P .matrix) ≡ P .m * P .n
+  pub moduli : length (P .moduli) ≡ P .m
+  pub entries : (i : ℕ) → natAbs (nth (P .matrix) i) ≤ 1000
+  pub low : (i : ℕ) → pos 0 ≤ℤ nth (P .moduli) i
+  pub high : (i : ℕ) → natAbs (nth (P .moduli) i) ≤ 1000
+
+-- q lists the rows with a modulus
+pub record Lists (P : Problem) (q : ModulusRows) : Type 0 where
+  pub count : q .s ≡ s P
+  pub few : q .s ≤ 8
+  pub rows : (c : ℕ) → c < q .s → getD (q .rows) c 0 ≡ getD (modulusRows P) c 0
+
+-- q with row i listed next
+pub record With (q : ModulusRows) (i : ℕ) (r : ModulusRows) : Type 0 where
+  pub rows : r .rows ≡ set (q .rows) (q .s) i
+  pub count : r .s ≡ suc (q .s)
+
+-- an entry of C
+pub record InC (P : Problem) (i c : ℕ) : Type 0 where
+  pub row : i < P .m
+  pub column : c < N P
+
+-- t holds C, row after row; what stands after it is as it was
+pub record HoldsC (P : Problem) (t t₀ : List ℤ) : Type 0 where
+  pub entries : (k : ℕ) → k < P .m * N P → nth t k ≡ C P (k / N P) (k % N P)
+  pub rest : (k : ℕ) → P .m * N P ≤ k → nth t k ≡ nth t₀ k
+  pub same : length t ≡ length t₀
+
+-- a list of zeros has 1 on the diagonal of n by n entries; what stands after them is as it was
+pub record HoldsIdentity (n : ℕ) (a a₀ : List ℤ) : Type 0 where
+  pub entries : ((k : ℕ) → nth a₀ k ≡ pos 0) → (i j : ℕ) → i < n → j < n → nth a (i * n + j) ≡ δ i j
+  pub rest : (k : ℕ) → n * n ≤ k → nth a k ≡ nth a₀ k
+  pub same : length a ≡ length a₀
+
+-- what the whole run ends with
+pub record Ran (P : Problem) (r : Outcome) : Type 0 where
+  pub count : r .s ≡ s P
+  pub tracks : Tracks (P .m) (N P) (r .work) (run P .state)
+  pub rank : r .work .over ≡ false → r .rank ≡ run P .rank

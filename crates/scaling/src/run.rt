@@ -1,0 +1,160 @@
+// A problem's start, and the whole run. The problem has a row for each modulus.
+ghost use mathlib.Core.Path.{_≡_};
+ghost use Prim.Native.Nat.{_<_, _≤_, _+_, _*_};
+ghost use lib.ListN.{length};
+ghost use lib.IntN.{pos};
+ghost use Rattle.whole.specs.Lists.{nth};
+ghost use Rattle.whole.specs.Matrix.{δ};
+ghost use Rattle.rules.specs.Problem.{s, N, C, columns};
+ghost use Rattle.rules.specs.Steps as steps;
+ghost use Rattle.scaling.specs.Join.{Same};
+ghost use Rattle.scaling.specs.Problem.{problemOf, WellFormed, Lists, InC, HoldsC, HoldsIdentity, Ran, With};
+use crate::numbers::is_zero;
+use crate::numbers::opposite;
+use crate::work::Progress;
+use crate::work::Work;
+
+// The rows with a modulus, from the top row down, and their count s.
+pub struct ModulusRows {
+    pub rows: [usize; 8],
+    pub s: usize,
+}
+
+impl ModulusRows {
+    // Row i is listed next.
+    fn with(mut self, i: usize) -> ModulusRows
+        requires { ⌜ self .s < 8 ⌝ }
+        ensures { λ r. ⌜ With self i r ⌝ }
+    {
+        let s = self.s;
+        self.rows[s] = i;
+        self.s = s + 1;
+        self
+    }
+}
+
+pub fn modulus_rows(n: usize, matrix: &[i32], moduli: &[i32]) -> ModulusRows
+    requires { ⌜ length (now moduli) ≤ 8 ⌝ }
+    ensures { λ r. ⌜ Lists (problemOf n (now (matrix .entry)) (now (moduli .entry))) r ⌝ }
+{
+    let mut r = ModulusRows { rows: [0; 8], s: 0 };
+    let mut i = 0;
+    while i < moduli.len() {
+        if !is_zero(moduli[i]) {
+            r = r.with(i);
+        }
+        i += 1;
+    }
+    r
+}
+
+// The entry of C in row i and column c.
+fn entry_of_c(n: usize, matrix: &[i32], moduli: &[i32], q: ModulusRows, i: usize, c: usize) -> i32
+    requires { ⌜ WellFormed (problemOf n (now matrix) (now moduli)) ⌝ }
+    requires { ⌜ Lists (problemOf n (now matrix) (now moduli)) q ⌝ }
+    requires { ⌜ InC (problemOf n (now matrix) (now moduli)) i c ⌝ }
+    ensures { λ r. ⌜ r ≡ C (problemOf n (now (matrix .entry)) (now (moduli .entry))) i c ⌝ }
+{
+    let s = q.s;
+    if c < s {
+        let k = q.rows[c];
+        if k == i {
+            return opposite(moduli[i]);
+        }
+        return 0;
+    }
+    matrix[i * n + (c - s)]
+}
+
+fn fill_c(t: &mut [i32; 192], n: usize, matrix: &[i32], moduli: &[i32], q: ModulusRows)
+    requires { ⌜ length (now t) ≡ 192 ⌝ }
+    requires { ⌜ WellFormed (problemOf n (now matrix) (now moduli)) ⌝ }
+    requires { ⌜ Lists (problemOf n (now matrix) (now moduli)) q ⌝ }
+    ensures { λ r. ⌜ HoldsC (problemOf n (now (matrix .entry)) (now (moduli .entry))) (now (t .exit)) (now (t .entry)) ⌝ }
+{
+    let cols = n + q.s;
+    let mut k = 0;
+    while k < moduli.len() * cols {
+        let x = entry_of_c(n, matrix, moduli, q, k / cols, k % cols);
+        t[k] = x;
+        k += 1;
+    }
+}
+
+// 1 on the diagonal of n by n entries, in a list of zeros.
+fn fill_identity(a: &mut [i32; 576], n: usize)
+    requires { ⌜ (n ≤ 24) × (length (now a) ≡ 576) ⌝ }
+    ensures { λ r. ⌜ HoldsIdentity n (now (a .exit)) (now (a .entry)) ⌝ }
+{
+    let mut i = 0;
+    while i < n {
+        a[i * n + i] = 1;
+        i += 1;
+    }
+}
+
+pub fn start(n: usize, matrix: &[i32], moduli: &[i32], q: ModulusRows) -> Work
+    requires { ⌜ WellFormed (problemOf n (now matrix) (now moduli)) ⌝ }
+    requires { ⌜ Lists (problemOf n (now matrix) (now moduli)) q ⌝ }
+    ensures { λ r. ⌜ Same (length (now (moduli .entry))) (N (problemOf n (now (matrix .entry)) (now (moduli .entry)))) r (steps.start (columns (problemOf n (now (matrix .entry)) (now (moduli .entry))))) ⌝ }
+{
+    let mut t: [i32; 192] = [0; 192];
+    fill_c(&mut t, n, matrix, moduli, q);
+    let mut v: [i32; 576] = [0; 576];
+    fill_identity(&mut v, n + q.s);
+    let w = v;
+    Work {
+        t: t,
+        v: v,
+        w: w,
+        steps: 0,
+        over: false,
+    }
+}
+
+// The state at the end, the rank, and the count s of non-zero moduli. Where the state is over, the rank says nothing.
+pub struct Outcome {
+    pub work: Work,
+    pub rank: usize,
+    pub s: usize,
+}
+
+pub fn run(n: usize, matrix: &[i32], moduli: &[i32]) -> Outcome
+    requires { ⌜ WellFormed (problemOf n (now matrix) (now moduli)) ⌝ }
+    ensures { λ r. ⌜ Ran (problemOf n (now (matrix .entry)) (now (moduli .entry))) r ⌝ }
+{
+    let m = moduli.len();
+    let q = modulus_rows(n, matrix, moduli);
+    let s = q.s;
+    let cols = n + s;
+    let first = start(n, matrix, moduli, q);
+    let one = first.rows(m, cols, false, 0, m);
+    let a = one.a;
+    let mut work = one.work;
+    let r = cols - a;
+    let over1 = work.over;
+    if over1 {
+        return Outcome {
+            work: work,
+            rank: r,
+            s: s,
+        };
+    }
+    work = work.reorder(m, cols, a);
+    let two = work.rows(m, cols, true, r, cols);
+    work = two.work;
+    let over2 = work.over;
+    if over2 {
+        return Outcome {
+            work: work,
+            rank: r,
+            s: s,
+        };
+    }
+    work = work.stage3(m, cols, r);
+    Outcome {
+        work: work,
+        rank: r,
+        s: s,
+    }
+}

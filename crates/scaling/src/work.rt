@@ -1,0 +1,410 @@
+// The work state, its three column steps, and the stages over them.
+ghost use mathlib.Core.Path.{_≡_};
+ghost use mathlib.Core.Bool.{cond, true};
+ghost use Prim.Native.Nat.{_<_, _≤_, _+_, _*_};
+ghost use lib.ListN.{length};
+ghost use lib.IntN.{natAbs, negℤ};
+ghost use lib.Signed.{quotZ};
+ghost use Rattle.whole.specs.Division.{floorZ};
+ghost use Rattle.whole.specs.Lists.{nth};
+ghost use Rattle.rules.specs.Limits.{isZero};
+ghost use Rattle.rules.specs.Steps.{swapStep, negateStep, addStep};
+ghost use Rattle.rules.specs.Steps as steps;
+ghost use Rattle.rules.specs.Stages as stages;
+ghost use Rattle.scaling.specs.Join.{stateOf, Fine, Tracks, Same, One, Two, entriesFor, tableFor, most};
+ghost use Rattle.scaling.specs.Scan.{sizes, Other, betterOf, Comparable, Divisible, Lowest};
+ghost use Rattle.scaling.specs.Rows.{Ready, Begun, Eliminated, Pivot, Reduced, Apart, AllReduced, Settled, RowBegun, RowDone, RowsBegun, RowsDone, Stage3Begun};
+use crate::numbers::cut;
+use crate::numbers::floor;
+use crate::numbers::is_negative;
+use crate::numbers::is_none;
+use crate::numbers::is_zero;
+use crate::numbers::minus;
+use crate::numbers::size;
+use crate::strided::add_t;
+use crate::strided::add_v;
+use crate::strided::either;
+use crate::strided::negate_t;
+use crate::strided::negate_v;
+use crate::strided::swap_t;
+use crate::strided::swap_v;
+use crate::strided::turn_t;
+use crate::strided::turn_v;
+
+// T is m by n, V and W are n by n, row after row without gaps; n is document 01's N.
+pub struct Work {
+    pub t: [i32; 192],
+    pub v: [i32; 576],
+    pub w: [i32; 576],
+    pub steps: u64,
+    pub over: bool,
+}
+
+// A stage's state, and the number of columns that stay active.
+pub struct Progress {
+    pub work: Work,
+    pub a: usize,
+}
+
+// The table that a stage looks at: V in stage 2, else T.
+pub fn table<'a>(t: &'a [i32; 192], v: &'a [i32; 576], stage2: bool) -> &'a [i32]
+    ensures { λ r. ⌜ now r ≡ entriesFor stage2 (now (t .entry)) (now (v .entry)) ⌝ }
+{
+    if stage2 { v } else { t }
+}
+
+// The lowest column from lo to hi, other than p, whose entry in the row at base is not 0; hi where there is none.
+pub fn other(x: &[i32], base: usize, p: usize, lo: usize, hi: usize) -> usize
+    requires { ⌜ (lo ≤ hi) × (hi + base ≤ length (now x)) ⌝ }
+    ensures { λ r. ⌜ Other (now (x .entry)) base p lo hi r ⌝ }
+{
+    let mut j = lo;
+    while j < hi {
+        if j != p {
+            if !is_zero(x[j + base]) {
+                return j;
+            }
+        }
+        j += 1;
+    }
+    hi
+}
+
+// The column to keep of two in the row at base: best, which is hi if there is none yet, and j.
+pub fn better(x: &[i32], base: usize, best: usize, j: usize, hi: usize) -> usize
+    requires { ⌜ Comparable (now x) base best j hi ⌝ }
+    ensures { λ r. ⌜ r ≡ betterOf hi (sizes (now (x .entry)) base) best j ⌝ }
+{
+    let y = size(x[j + base]);
+    if y == 0 {
+        return best;
+    }
+    if best == hi {
+        return j;
+    }
+    let z = size(x[best + base]);
+    if y < z { j } else { best }
+}
+
+// The pivot's column after an addition to column j: j, or p where the entry of j came to 0.
+pub fn next_pivot(x: &[i32], base: usize, p: usize, j: usize) -> usize
+    requires { ⌜ j + base < length (now x) ⌝ }
+    ensures { λ r. ⌜ r ≡ cond (isZero (nth (now (x .entry)) (j + base))) p j ⌝ }
+{
+    if is_zero(x[j + base]) { p } else { j }
+}
+
+// The negated quotient of entry j by entry p, cut toward zero.
+pub fn quotient(x: &[i32], base: usize, p: usize, j: usize) -> i64
+    requires { ⌜ Divisible (now x) base p j ⌝ }
+    ensures { λ r. ⌜ r ≡ negℤ (quotZ (nth (now (x .entry)) (j + base)) (nth (now (x .entry)) (p + base))) ⌝ }
+{
+    let a = x[j + base];
+    let b = x[p + base];
+    minus(cut(a, b))
+}
+
+// The negated floor of entry c by entry b.
+pub fn floor_quotient(x: &[i32], base: usize, b: usize, c: usize) -> i64
+    requires { ⌜ Divisible (now x) base b c ⌝ }
+    ensures { λ r. ⌜ r ≡ negℤ (floorZ (nth (now (x .entry)) (c + base)) (nth (now (x .entry)) (b + base))) ⌝ }
+{
+    let y = x[c + base];
+    let z = x[b + base];
+    minus(floor(y, z))
+}
+
+// The row of the lowest entry of column c of V that is not 0; n where there is none.
+pub fn pivot_row(v: &[i32], n: usize, c: usize) -> usize
+    requires { ⌜ (c < n) × (n * n ≤ length (now v)) ⌝ }
+    ensures { λ r. ⌜ Lowest (now (v .entry)) n c r ⌝ }
+{
+    let mut k = n;
+    while 0 < k {
+        k -= 1;
+        if !is_zero(v[c + k * n]) {
+            return k;
+        }
+    }
+    n
+}
+
+impl Work {
+    // Columns i and j of T and V, rows i and j of W.
+    pub fn swap(mut self, m: usize, n: usize, i: usize, j: usize) -> Work
+        requires { ⌜ Fine m n self ⌝ }
+        requires { ⌜ Two n i j self ⌝ }
+        ensures { λ r. ⌜ Same m n r (swapStep i j (stateOf m n self)) ⌝ }
+    {
+        swap_t(&mut self.t, i, j, n, m);
+        swap_v(&mut self.v, i, j, n, n);
+        swap_v(&mut self.w, i * n, j * n, 1, n);
+        self.steps = self.steps + 1;
+        self
+    }
+
+    pub fn negate(mut self, m: usize, n: usize, i: usize) -> Work
+        requires { ⌜ Fine m n self ⌝ }
+        requires { ⌜ One n i self ⌝ }
+        ensures { λ r. ⌜ Same m n r (negateStep i (stateOf m n self)) ⌝ }
+    {
+        negate_t(&mut self.t, i, n, m);
+        negate_v(&mut self.v, i, n, n);
+        negate_v(&mut self.w, i * n, 1, n);
+        self.steps = self.steps + 1;
+        self
+    }
+
+    // Column j gains q times column i in T and V; in W row i loses q times row j.
+    pub fn add(mut self, m: usize, n: usize, i: usize, j: usize, q: i64) -> Work
+        requires { ⌜ Fine m n self ⌝ }
+        requires { ⌜ Two n i j self ⌝ }
+        requires { ⌜ natAbs q ≤ 2147483648 ⌝ }
+        ensures { λ r. ⌜ Tracks m n r (addStep i j q (stateOf m n self)) ⌝ }
+    {
+        let a = add_t(&mut self.t, j, i, n, m, q);
+        let b = add_v(&mut self.v, j, i, n, n, q);
+        let p = minus(q);
+        let c = add_v(&mut self.w, i * n, j * n, 1, n, p);
+        self.over = either(a, either(b, c));
+        self.steps = self.steps + 1;
+        self
+    }
+
+    // The columns after a come before columns 0 to a, and the rows of W likewise.
+    pub fn reorder(mut self, m: usize, n: usize, a: usize) -> Work
+        requires { ⌜ Fine m n self ⌝ }
+        requires { ⌜ (0 < n) × (a ≤ n) ⌝ }
+        ensures { λ r. ⌜ Same m n r (steps.reorder a (stateOf m n self)) ⌝ }
+    {
+        let t = self.t;
+        let v = self.v;
+        let w = self.w;
+        turn_t(&mut self.t, &t, m, n, a);
+        turn_v(&mut self.v, &v, n, n, a);
+        turn_v(&mut self.w, &w, 1, n * n, a * n);
+        self
+    }
+
+    // (A) until one column is left: this repetition, and the rest.
+    fn eliminate(
+        mut self,
+        m: usize,
+        n: usize,
+        stage2: bool,
+        row: usize,
+        lo: usize,
+        a: usize,
+        p: usize,
+        j: usize,
+        q: i64,
+    ) -> Work
+        requires { ⌜ Fine m n self ⌝ }
+        requires { ⌜ Ready stage2 m n row lo a p j q self ⌝ }
+        ensures { λ r. ⌜ Eliminated stage2 m n row lo a self r ⌝ }
+    {
+        let work = self.add(m, n, p, j, q);
+        let base = row * n;
+        let x = table(&work.t, &work.v, stage2);
+        let next = next_pivot(x, base, p, j);
+        let k = other(x, base, next, lo, a);
+        let over = work.over;
+        if either(over, k == a) {
+            self = work;
+            return self;
+        }
+        let r = quotient(x, base, next, k);
+        self = work.eliminate(m, n, stage2, row, lo, a, next, k, r);
+        self
+    }
+
+    // (A) in a row whose smallest entry stands in column p.
+    fn sweep(
+        mut self,
+        m: usize,
+        n: usize,
+        stage2: bool,
+        row: usize,
+        lo: usize,
+        a: usize,
+        p: usize,
+    ) -> Work
+        requires { ⌜ Fine m n self ⌝ }
+        requires { ⌜ Begun stage2 m n row lo a p self ⌝ }
+        ensures { λ r. ⌜ Eliminated stage2 m n row lo a self r ⌝ }
+    {
+        let base = row * n;
+        let x = table(&self.t, &self.v, stage2);
+        let k = other(x, base, p, lo, a);
+        if k == a {
+            return self;
+        }
+        let q = quotient(x, base, p, k);
+        self = self.eliminate(m, n, stage2, row, lo, a, p, k, q);
+        self
+    }
+
+    fn bring(mut self, m: usize, n: usize, p: usize, b: usize) -> Work
+        requires { ⌜ Fine m n self ⌝ }
+        requires { ⌜ (p < n) × (b < n) × (self .steps < most) ⌝ }
+        ensures { λ r. ⌜ Same m n r (stages.bring p b (stateOf m n self)) ⌝ }
+    {
+        if p == b {
+            return self;
+        }
+        self = self.swap(m, n, p, b);
+        self
+    }
+
+    fn make_positive(mut self, m: usize, n: usize, stage2: bool, row: usize, b: usize) -> Work
+        requires { ⌜ Fine m n self ⌝ }
+        requires { ⌜ Pivot stage2 m n row b self 1 ⌝ }
+        ensures { λ r. ⌜ Same m n r (stages.makePositive (tableFor stage2) row b (stateOf m n self)) ⌝ }
+    {
+        let x = table(&self.t, &self.v, stage2);
+        let y = x[b + row * n];
+        if is_negative(y) {
+            self = self.negate(m, n, b);
+            return self;
+        }
+        self
+    }
+
+    // Column c comes into range at the pivot in column b.
+    fn reduce(mut self, m: usize, n: usize, stage2: bool, row: usize, b: usize, c: usize) -> Work
+        requires { ⌜ Fine m n self ⌝ }
+        requires { ⌜ Pivot stage2 m n row b self 1 ⌝ }
+        requires { ⌜ (c < n) × (b ≡ c → ⊥) ⌝ }
+        ensures { λ r. ⌜ Reduced stage2 m n row b c self r ⌝ }
+    {
+        let x = table(&self.t, &self.v, stage2);
+        let q = floor_quotient(x, row * n, b, c);
+        if is_none(q) {
+            return self;
+        }
+        self = self.add(m, n, b, c, q);
+        self
+    }
+
+    // Columns lo to hi come into range, in order.
+    fn reduce_all(
+        mut self,
+        m: usize,
+        n: usize,
+        stage2: bool,
+        row: usize,
+        b: usize,
+        lo: usize,
+        hi: usize,
+    ) -> Work
+        requires { ⌜ Fine m n self ⌝ }
+        requires { ⌜ Pivot stage2 m n row b self n ⌝ }
+        requires { ⌜ Apart n b lo hi ⌝ }
+        ensures { λ r. ⌜ AllReduced stage2 m n row b lo hi self r ⌝ }
+    {
+        let mut c = lo;
+        while c < hi {
+            self = self.reduce(m, n, stage2, row, b, c);
+            let over = self.over;
+            if over {
+                return self;
+            }
+            c += 1;
+        }
+        self
+    }
+
+    // (B): column p, the only one left, becomes column b, the pivot's.
+    fn settle(mut self, m: usize, n: usize, stage2: bool, row: usize, p: usize, b: usize) -> Work
+        requires { ⌜ Fine m n self ⌝ }
+        requires { ⌜ Pivot stage2 m n row p self (n + 2) ⌝ }
+        requires { ⌜ b < n ⌝ }
+        ensures { λ r. ⌜ Settled stage2 m n row p b self r ⌝ }
+    {
+        self = self.bring(m, n, p, b);
+        self = self.make_positive(m, n, stage2, row, b);
+        self = self.reduce_all(m, n, stage2, row, b, b + 1, n);
+        self
+    }
+
+    // (A) and (B) in a row whose smallest entry stands in column p.
+    fn row(
+        mut self,
+        m: usize,
+        n: usize,
+        stage2: bool,
+        k: usize,
+        lo: usize,
+        a: usize,
+        p: usize,
+    ) -> Work
+        requires { ⌜ Fine m n self ⌝ }
+        requires { ⌜ RowBegun stage2 m n k lo a p self ⌝ }
+        ensures { λ r. ⌜ RowDone stage2 m n k lo a self r ⌝ }
+    {
+        self = self.sweep(m, n, stage2, k, lo, a, p);
+        let over = self.over;
+        if over {
+            return self;
+        }
+        let x = table(&self.t, &self.v, stage2);
+        let left = other(x, k * n, a, lo, a);
+        self = self.settle(m, n, stage2, k, left, a - 1);
+        self
+    }
+
+    // All rows from the last to the first, each passed over where its active columns are all zero.
+    pub fn rows(mut self, m: usize, n: usize, stage2: bool, lo: usize, height: usize) -> Progress
+        requires { ⌜ Fine m n self ⌝ }
+        requires { ⌜ RowsBegun stage2 m n lo height self ⌝ }
+        ensures { λ r. ⌜ RowsDone stage2 m n lo height self (r .work) (r .a) ⌝ }
+    {
+        let mut a = n;
+        let mut k = height;
+        'rows: while 0 < k {
+            k -= 1;
+            let base = k * n;
+            let mut best = a;
+            let mut j = lo;
+            let p = loop {
+                if a <= j {
+                    if best == a {
+                        continue 'rows;
+                    }
+                    break best;
+                }
+                let x = table(&self.t, &self.v, stage2);
+                best = better(x, base, best, j, a);
+                j += 1;
+            };
+            self = self.row(m, n, stage2, k, lo, a, p);
+            a -= 1;
+            let over = self.over;
+            if over {
+                return Progress { work: self, a: a };
+            }
+        }
+        Progress { work: self, a: a }
+    }
+
+    // The first r columns of V come into range at every pivot row of the others, from the bottom row up.
+    pub fn stage3(mut self, m: usize, n: usize, r: usize) -> Work
+        requires { ⌜ Fine m n self ⌝ }
+        requires { ⌜ Stage3Begun n r self ⌝ }
+        ensures { λ x. ⌜ Tracks m n x (stages.stage3 n r n (stateOf m n self)) ⌝ }
+    {
+        let mut c = n;
+        while r < c {
+            c -= 1;
+            let k = pivot_row(&self.v, n, c);
+            if k < n {
+                self = self.reduce_all(m, n, true, k, c, 0, r);
+                let over = self.over;
+                if over {
+                    return self;
+                }
+            }
+        }
+        self
+    }
+}
