@@ -1,4 +1,4 @@
--- The call `translate`: a refusal as it stands, or the formula in the groups; first from the answers of checks 1 to 6, then from those of 7 to 9.
+-- The call `translate`: a refusal as it stands, or the formula in the groups; from the answers of checks 7 to 9, and of 1 to 6 before them.
 use mathlib.Core.Path.{_≡_, refl, _∙_, ap}
 use mathlib.Core.Logic.{_≢_}
 use mathlib.Core.Bool.{Bool, true, false, _&&_}

@@ -23,13 +23,13 @@ use Rattle.scaling.specs.Flat.{keep}
 pub abs32 : (z : ℤ) → SFits w32 z → natAbs z ≤ 2147483648
 abs32 z f = fits-abs w32 z f
 
-pub fits64 : (z : ℤ) → natAbs z < 9223372036854775808 → SFits w64 z
+fits64 : (z : ℤ) → natAbs z < 9223372036854775808 → SFits w64 z
 fits64 z h = fits w64 z h
 
 pub fits32 : (z : ℤ) → natAbs z ≤ M → SFits w32 z
 fits32 z h = fits w32 z (omega arith)
 
-pub widens : (z : ℤ) → SFits w32 z → SFits w64 z
+widens : (z : ℤ) → SFits w32 z → SFits w64 z
 widens z f = fits64 z (omega (arith, abs32 z f))
 
 -- an entry of a list that was read, by what the read tells of it

@@ -14,6 +14,7 @@ use mir.Facts.{toZ-ofZ}
 use Rattle.whole.specs.Lists.{nth}
 use Rattle.whole.specs.Sum.{sum}
 use Rattle.whole.proofs.Tests.{Test, pass, fail}
+use Rattle.whole.proofs.Order.{fits}
 use Rattle.whole.proofs.Division.{rem-le}
 use Rattle.rules.specs.Problem.{Problem, modulus}
 use Rattle.rules.specs.Formulas.{rowTimes, weight}
@@ -21,7 +22,7 @@ use Rattle.theory.proofs.MoreTests.{isZero?}
 use Rattle.theory.proofs.Weights.{weight-without, weight-with}
 use Rattle.scaling.specs.Problem.{problemOf, WellFormed}
 use Rattle.scaling.specs.Terms.{from, Monomial, Products, Weight}
-use Rattle.scaling.proofs.Values.{fits32, fits64}
+use Rattle.scaling.proofs.Values.{fits32}
 use Rattle.scaling.proofs.Sums.{dot-small}
 
 -- the exponents from the front on
@@ -55,7 +56,7 @@ module _ {n : ℕ} {matrix moduli es : List ℤ} {start : ℕ} (F : WellFormed (
   -- what `dot` adds up, read back
   pub row-read : (r : ℤ) → r ≡ sum n (λ j. nth matrix (i * n + j) *ℤ nth es (start + j)) → toZ w64 (ofZ w64 r) ≡ rowTimes P v i
   unfolding rowTimes
-  row-read r e = rw e (toZ-ofZ (fits64 (rowTimes P v i) (omega (arith, row-size))))
+  row-read r e = rw e (toZ-ofZ (fits w64 (rowTimes P v i) (omega (arith, row-size))))
 
   pub modulus-fits : SFits w32 (modulus P i)
   modulus-fits = fits32 (modulus P i) (omega (arith, F .high i))

@@ -6,9 +6,9 @@ use Prim.Native.Nat.{ℕ, _≤_, _<_, _-_}
 use native.Mathlib.Omega.{arith}
 use native.Mathlib.Numerals.{add-one}
 use lib.ListN.{length}
-use mir.Syntax.{w32}
 use lib.IntN.{ℤ}
-use mir.Val.{SFits, toZ, ofZ}
+use mir.Syntax.{w32}
+use mir.Val.{toZ, ofZ}
 use mir.Facts.{toZ-ofZ}
 use denote.Ref.{now}
 use borrow.Author.Needs.{needs}
@@ -19,6 +19,7 @@ use Rattle.rules.specs.Search.{none, first}
 use Rattle.rules.specs.Calls.{firstOut}
 use Rattle.theory.proofs.Loops.{first-start, first-more, first-hit}
 use Rattle.scaling.specs.Checks.{FirstOut}
+use Rattle.scaling.proofs.Values.{held}
 use Rattle.scaling.proofs.checks.first_out.Statement.{statement}
 use Rattle.scaling.proofs.checks.first_out.Tie as tie
 
@@ -57,11 +58,8 @@ module _ (c : tie.After-within Inv-loop μ-loop) where
   abbrev number : ℤ
   number = nth (now (entry .args .xs)) (c .before .before .before .loop .i)
 
-  number-fits : SFits w32 number
-  number-fits = record { sfits = c .before .within-arg .given }
-
   tested : c .within .result ≡ good entry number
-  tested = c .within .ensures ∙ ap (good entry) (toZ-ofZ number-fits)
+  tested = c .within .ensures ∙ ap (good entry) (held number (c .before .within-arg .given))
 
 loop-holds : tie.Need-loop-holds Inv-loop μ-loop
 loop-holds c = (omega arith, first-start _ 0 0 (omega arith))

@@ -3,13 +3,13 @@ use mathlib.Core.Path.{_≡_, _∙_, ap₂}
 use Prim.Native.Nat.{ℕ, suc, _+_, _-_, _<_, _≤_}
 use native.Mathlib.Omega.{arith}
 use lib.IntN.{ℤ, natAbs, _*ℤ_}
-use mir.Syntax.{w32, w64}
+use mir.Syntax.{w64}
 use mir.Val.{SFits, toZ}
-use mir.Facts.{toZ-ofZ}
 use denote.Ref.{now}
 use borrow.Author.Needs.{needs}
 use Rattle.whole.specs.Lists.{nth}
 use Rattle.whole.specs.Sum as sums
+use Rattle.scaling.proofs.Values.{held}
 use Rattle.scaling.proofs.Sums.{sum-none, sum-fits, sum-more, dot-small}
 use Rattle.scaling.proofs.formulas.dot.Statement.{statement}
 use Rattle.scaling.proofs.formulas.dot.Tie as tie
@@ -28,17 +28,17 @@ module _ (c : tie.After-product Inv-loop μ-loop) where
   abbrev j : ℕ
   j = c .before .before .before .before .loop .j
 
+  abbrev left : ℕ → ℤ
+  left k = nth (now (entry .args .a)) (entry .args .at + k)
+
+  abbrev right : ℕ → ℤ
+  right k = nth (now (entry .args .b)) (entry .args .start + k)
+
   abbrev products : ℕ → ℤ
-  products k = nth (now (entry .args .a)) (entry .args .at + k) *ℤ nth (now (entry .args .b)) (entry .args .start + k)
-
-  left-fits : SFits w32 (nth (now (entry .args .a)) (entry .args .at + j))
-  left-fits = record { sfits = c .before .before .product-arg .given }
-
-  right-fits : SFits w32 (nth (now (entry .args .b)) (entry .args .start + j))
-  right-fits = record { sfits = c .before .product-arg2 .given }
+  products k = left k *ℤ right k
 
   next : c .product .result ≡ products j
-  next = c .product .ensures ∙ ap₂ _*ℤ_ (toZ-ofZ left-fits) (toZ-ofZ right-fits)
+  next = c .product .ensures ∙ ap₂ _*ℤ_ (held (left j) (c .before .before .product-arg .given)) (held (right j) (c .before .product-arg2 .given))
 
   result-fits : SFits w64 (c .product .result)
   result-fits = record { sfits = c .product .ok }

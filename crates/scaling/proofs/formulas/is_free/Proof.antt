@@ -1,5 +1,5 @@
 -- `formulas::is_free` meets its contract. The loop's invariant: no row before i has a weight that is not 0.
-use mathlib.Core.Path.{_≡_, sym, _∙_, ap, refl}
+use mathlib.Core.Path.{_≡_, refl, sym, _∙_, ap}
 use mathlib.Core.Bool.{Bool, true, false, not}
 use Prim.Native.Nat.{ℕ, _-_, _≤_}
 use native.Mathlib.Numerals.{add-one}

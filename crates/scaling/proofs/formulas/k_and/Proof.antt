@@ -3,8 +3,8 @@ use mathlib.Core.Path.{_≡_, sym, _∙_, ap}
 use Prim.Native.Nat.{ℕ, _+_, _-_, _≤_, _<_}
 use native.Mathlib.Omega.{arith}
 use lib.IntN.{ℤ, natAbs}
-use mir.Syntax.{w32, w64}
-use mir.Val.{SFits, toZ, ofZ}
+use mir.Syntax.{w64}
+use mir.Val.{toZ, ofZ}
 use mir.Facts.{toZ-ofZ}
 use denote.Ref.{now}
 use borrow.Author.Needs.{needs}
@@ -13,6 +13,7 @@ use Rattle.rules.specs.Formulas.{kAnd}
 use Rattle.theory.proofs.Weights.{kAnd-first, kAnd-rest}
 use Rattle.scaling.specs.Problem.{problemOf}
 use Rattle.scaling.specs.Terms.{from}
+use Rattle.scaling.proofs.Values.{held}
 use Rattle.scaling.proofs.KAndV.{Begins, begins-more, zeros-small}
 use Rattle.scaling.proofs.formulas.k_and.Statement.{statement}
 use Rattle.scaling.proofs.formulas.k_and.Tie as tie
@@ -38,11 +39,8 @@ module _ (c : tie.After-wide Inv-loop μ-loop) where
   abbrev j : ℕ
   j = c .before .before .before .loop .j
 
-  exponent-fits : SFits w32 (v entry j)
-  exponent-fits = record { sfits = c .before .wide-arg .given }
-
   read : toZ w64 (ofZ w64 (c .wide .result)) ≡ v entry j
-  read = toZ-ofZ (record { sfits = c .wide .ok }) ∙ c .wide .ensures ∙ toZ-ofZ exponent-fits
+  read = toZ-ofZ (record { sfits = c .wide .ok }) ∙ c .wide .ensures ∙ held (v entry j) (c .before .wide-arg .given)
 
   is-next : v entry j ≡ kAnd (P entry) (v entry) (entry .args .q .s + j)
   is-next = sym (kAnd-rest (P entry) (v entry) j) ∙ ap (λ k. kAnd (P entry) (v entry) (k + j)) (sym (entry .pre .1 .0 .count))

@@ -13,7 +13,8 @@ use Rattle.rules.specs.Problem.{Problem, modulus}
 use Rattle.rules.specs.Formulas.{rowTimes}
 use Rattle.scaling.specs.Problem.{problemOf}
 use Rattle.scaling.specs.Terms.{from}
-use Rattle.scaling.proofs.Values.{abs32, widens, widened, quot-fits, bits-pos}
+use Rattle.scaling.proofs.Values.{cast-fits, widened, quot-fits}
+use Rattle.scaling.proofs.Sums.{divides64}
 use Rattle.scaling.proofs.Weighing.{place-fits, row-products, row-size, row-read, modulus-fits}
 use Rattle.scaling.proofs.formulas.k_of.Statement.{statement}
 use Rattle.scaling.proofs.formulas.k_of.Tie as tie
@@ -50,14 +51,13 @@ shared-slice-copy-out-result : tie.Need-shared-slice-copy-out-result
 shared-slice-copy-out-result c = search needs
 
 cast-result : tie.Need-cast-result
-cast-result c = let s = c .before .before in rw (toZ-ofZ (p-fits s)) (widens (modulus (P s) (i s)) (p-fits s))
+cast-result c = let s = c .before .before in cast-fits (modulus (P s) (i s)) (p-fits s)
 
 div-result : tie.Need-div-result
 div-result c =
     let s = c .before .before in
-    let p = modulus (P s) (i s) in
-    simp (toZ-ofZ (p-fits s), toZ-ofZ (widens p (p-fits s)), row (c .before))
-    (bits-pos p (abs32 p (p-fits s)) (s .pre .1 .1 .filled), k-fits s)
+    let p = s .pre in
+    divides64 (modulus (P s) (i s)) (row (c .before)) (row-size (p .0) (p .1 .0) (i s) (p .1 .1 .row)) (p-fits s) (p .1 .1 .filled)
 
 returns : tie.Need-returns
 returns c =

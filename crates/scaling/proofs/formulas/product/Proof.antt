@@ -3,7 +3,7 @@ use lib.IntN.{_*ℤ_}
 use mir.Syntax.{w64}
 use mir.Val.{SFits}
 use mir.Facts.{toZ-ofZ}
-use Rattle.scaling.proofs.Values.{abs32, widens, widened, prod-fits}
+use Rattle.scaling.proofs.Values.{abs32, cast-fits, widened, prod-fits}
 use Rattle.scaling.proofs.formulas.product.Statement.{statement}
 use Rattle.scaling.proofs.formulas.product.Tie as tie
 
@@ -11,10 +11,10 @@ prod : (c : tie.Start) → SFits w64 (c .args .a *ℤ c .args .b)
 prod c = prod-fits (c .args .a) (c .args .b) (abs32 (c .args .a) (c .fits .a)) (abs32 (c .args .b) (c .fits .b))
 
 cast-result : tie.Need-cast-result
-cast-result c = rw (toZ-ofZ (c .fits .a)) (widens (c .args .a) (c .fits .a))
+cast-result c = cast-fits (c .args .a) (c .fits .a)
 
 cast-result-2 : tie.Need-cast-result-2
-cast-result-2 c = rw (toZ-ofZ (c .fits .b)) (widens (c .args .b) (c .fits .b))
+cast-result-2 c = cast-fits (c .args .b) (c .fits .b)
 
 mul-result : tie.Need-mul-result
 mul-result c = simp (widened (c .args .a) (c .fits .a), widened (c .args .b) (c .fits .b)) (prod c)

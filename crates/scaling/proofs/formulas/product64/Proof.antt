@@ -4,7 +4,7 @@ use lib.IntN.{_*ℤ_}
 use mir.Syntax.{w64}
 use mir.Val.{SFits}
 use mir.Facts.{toZ-ofZ}
-use Rattle.scaling.proofs.Values.{abs32, widens, widened, prod-fits}
+use Rattle.scaling.proofs.Values.{abs32, cast-fits, widened, prod-fits}
 use Rattle.scaling.proofs.formulas.product64.Statement.{statement}
 use Rattle.scaling.proofs.formulas.product64.Tie as tie
 
@@ -12,7 +12,7 @@ prod : (c : tie.Start) → SFits w64 (c .args .a *ℤ c .args .b)
 prod c = prod-fits (c .args .a) (c .args .b) (abs32 (c .args .a) (c .fits .a)) (omega (arith, c .pre))
 
 cast-result : tie.Need-cast-result
-cast-result c = rw (toZ-ofZ (c .fits .a)) (widens (c .args .a) (c .fits .a))
+cast-result c = cast-fits (c .args .a) (c .fits .a)
 
 mul-result : tie.Need-mul-result
 mul-result c = simp (widened (c .args .a) (c .fits .a), toZ-ofZ (c .fits .b)) (prod c)

@@ -1,29 +1,25 @@
 -- `formulas::remainder` meets its contract: the modulus is not 0, and neither quotient nor remainder is larger than x.
 use native.Mathlib.Omega.{arith}
-use lib.Signed.{quotZ, remZ}
+use lib.Signed.{remZ}
 use mir.Syntax.{w64}
 use mir.Val.{SFits}
 use mir.Facts.{toZ-ofZ}
+use Rattle.whole.proofs.Order.{fits}
 use Rattle.whole.proofs.Division.{rem-le}
 use Rattle.rules.specs.Formulas.{remainder}
-use Rattle.scaling.proofs.Values.{abs32, fits64, widens, widened, quot-fits, bits-pos}
+use Rattle.scaling.proofs.Values.{cast-fits, widened}
+use Rattle.scaling.proofs.Sums.{divides64}
 use Rattle.scaling.proofs.formulas.remainder.Statement.{statement}
 use Rattle.scaling.proofs.formulas.remainder.Tie as tie
 
-module _ (c : tie.Start) where
-  quot : SFits w64 (quotZ (c .args .x) (c .args .p))
-  quot = quot-fits (c .args .x) (c .args .p) (omega (arith, c .pre))
-
-  rem : SFits w64 (remZ (c .args .x) (c .args .p))
-  rem = fits64 (remZ (c .args .x) (c .args .p)) (omega (arith, c .pre, rem-le (c .args .x) (c .args .p)))
+rem : (c : tie.Start) → SFits w64 (remZ (c .args .x) (c .args .p))
+rem c = fits w64 (remZ (c .args .x) (c .args .p)) (omega (arith, c .pre, rem-le (c .args .x) (c .args .p)))
 
 cast-result : tie.Need-cast-result
-cast-result c = rw (toZ-ofZ (c .fits .p)) (widens (c .args .p) (c .fits .p))
+cast-result c = cast-fits (c .args .p) (c .fits .p)
 
 rem-result : tie.Need-rem-result
-rem-result c =
-    simp (toZ-ofZ (c .fits .p), toZ-ofZ (widens (c .args .p) (c .fits .p)), toZ-ofZ (c .fits .x))
-    (bits-pos (c .args .p) (abs32 (c .args .p) (c .fits .p)) (c .pre .1), quot c)
+rem-result c = divides64 (c .args .p) (toZ-ofZ (c .fits .x)) (c .pre .0) (c .fits .p) (c .pre .1)
 
 returns : tie.Need-returns
 unfolding remainder

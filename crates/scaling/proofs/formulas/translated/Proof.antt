@@ -5,14 +5,15 @@ use native.Mathlib.Omega.{arith}
 use lib.Arith.{digits-lt}
 use lib.ListN.{length}
 use lib.IntN.{ℤ, natAbs, _*ℤ_}
-use mir.Syntax.{w32, w64}
+use mir.Syntax.{w64}
 use mir.Val.{SFits, toZ}
 use mir.Facts.{toZ-ofZ}
 use denote.Ref.{now}
 use borrow.Author.Needs.{needs}
 use Rattle.whole.specs.Lists.{nth}
 use Rattle.whole.specs.Sum as sums
-use Rattle.scaling.proofs.Values.{fits64}
+use Rattle.whole.proofs.Order.{fits}
+use Rattle.scaling.proofs.Values.{held}
 use Rattle.scaling.proofs.Sums.{sum-none, sum-fits, sum-more, row-small}
 use Rattle.scaling.proofs.formulas.translated.Statement.{statement}
 use Rattle.scaling.proofs.formulas.translated.Tie as tie
@@ -37,21 +38,23 @@ module _ (c : tie.After-product64-arg2 Inv-loop μ-loop) where
   abbrev at : ℕ
   at = c .before .before .before .loop .c
 
-  abbrev products : ℕ → ℤ
-  products k = nth (now (entry .args .w)) (entry .args .row * entry .args .n + k) *ℤ nth (entry .args .t4 .x) k
+  abbrev left : ℕ → ℤ
+  left k = nth (now (entry .args .w)) (entry .args .row * entry .args .n + k)
 
-  left-fits : SFits w32 (nth (now (entry .args .w)) (entry .args .row * entry .args .n + at))
-  left-fits = record { sfits = c .before .product64-arg .given }
+  abbrev products : ℕ → ℤ
+  products k = left k *ℤ nth (entry .args .t4 .x) k
 
   right-fits : SFits w64 (nth (entry .args .t4 .x) at)
-  right-fits = fits64 (nth (entry .args .t4 .x) at) (omega (arith, entry .pre .e-small at))
+  right-fits = fits w64 (nth (entry .args .t4 .x) at) (omega (arith, entry .pre .e-small at))
 
   small : natAbs (sums.sum (suc at) products) < 9223372036854775808
   small = omega (arith, row-small (entry .pre) (suc at) (omega arith))
 
 module _ (c : tie.After-product64 Inv-loop μ-loop) where
   next : c .product64 .result ≡ products (c .before) (at (c .before))
-  next = c .product64 .ensures ∙ ap₂ _*ℤ_ (toZ-ofZ (left-fits (c .before))) (toZ-ofZ (right-fits (c .before)))
+  next =
+      let b = c .before in
+      c .product64 .ensures ∙ ap₂ _*ℤ_ (held (left b (at b)) (b .before .product64-arg .given)) (toZ-ofZ (right-fits b))
 
   result-fits : SFits w64 (c .product64 .result)
   result-fits = record { sfits = c .product64 .ok }

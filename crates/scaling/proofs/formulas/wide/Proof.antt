@@ -1,11 +1,10 @@
 -- `formulas::wide` meets its contract: what fits 32 bits fits 64.
-use mir.Facts.{toZ-ofZ}
-use Rattle.scaling.proofs.Values.{widens, widened}
+use Rattle.scaling.proofs.Values.{cast-fits, widened}
 use Rattle.scaling.proofs.formulas.wide.Statement.{statement}
 use Rattle.scaling.proofs.formulas.wide.Tie as tie
 
 cast-result : tie.Need-cast-result
-cast-result c = rw (toZ-ofZ (c .fits .x)) (widens (c .args .x) (c .fits .x))
+cast-result c = cast-fits (c .args .x) (c .fits .x)
 
 returns : tie.Need-returns
 returns c = widened (c .args .x) (c .fits .x)
