@@ -284,11 +284,11 @@ fn translate_all(
 {
     let cols = n + q.s;
     let d = cols - r;
-    let mut t = 0;
-    while t < coefficients.len() {
-        let e = formulas::k_and(n, matrix, moduli, q, exponents, t * n);
-        translate_term(out, t * d, w, cols, r, e);
-        t += 1;
+    let mut done = 0;
+    while done < coefficients.len() {
+        let e = formulas::k_and(n, matrix, moduli, q, exponents, done * n);
+        translate_term(out, done * d, w, cols, r, e);
+        done += 1;
     }
 }
 
@@ -309,8 +309,8 @@ fn translate_checked(
 {
     let u = run::run(n, matrix, moduli);
     let work = u.work;
-    let over = work.over;
-    if over {
+    let beyond = work.over;
+    if beyond {
         return TranslateAnswer {
             number: 7,
             place: 0,

@@ -1,4 +1,4 @@
--- `translate_all` meets its contract. The loop's invariant: the exponents of the first t terms are written, the other entries are as they were.
+-- `translate_all` meets its contract. The loop's invariant: the exponents of the terms done are written, the other entries are as they were.
 use mathlib.Core.Path.{_≡_, sym, _∙_, ap}
 use mathlib.Core.List.{List, _++_}
 use Prim.Native.Nat.{ℕ, suc, _+_, _-_, _*_, _≤_}
@@ -62,7 +62,7 @@ module _ (c : tie.After-k-and Inv-loop μ-loop) where
   entry = c .before .before .before .before
 
   abbrev t : ℕ
-  t = c .before .before .loop .t
+  t = c .before .before .loop .done
 
   turn-room : t * d entry + d entry ≤ length (c .before .before .loop .out)
   turn-room =
@@ -86,12 +86,12 @@ loop-holds c = let s = c .before in (omega arith, sym (begun-none (d s) (exponen
 mul-k-and : tie.Need-mul-k-and Inv-loop μ-loop
 mul-k-and c =
     let p = c .before .before .before .pre in
-    omega (arith, term-place (p .0) (p .1 .1 .1 .0) (c .before .loop .t) (c .loop-test .taken))
+    omega (arith, term-place (p .0) (p .1 .1 .1 .0) (c .before .loop .done) (c .loop-test .taken))
 
 k-and-requires : tie.Need-k-and-requires Inv-loop μ-loop
 k-and-requires c κs =
     let p = c .before .before .before .pre in
-    (p .0, (p .1 .0, term-monomial (p .0) (p .1 .1 .1 .0) (c .before .loop .t) (c .loop-test .taken)))
+    (p .0, (p .1 .0, term-monomial (p .0) (p .1 .1 .1 .0) (c .before .loop .done) (c .loop-test .taken)))
 
 mul-translate-term : tie.Need-mul-translate-term Inv-loop μ-loop
 mul-translate-term c = place-fits (c .before)
@@ -107,8 +107,8 @@ translate-term-requires c κs =
       ),
     )
 
-add-t : tie.Need-add-t Inv-loop μ-loop
-add-t c = search needs
+add-done : tie.Need-add-done Inv-loop μ-loop
+add-done c = search needs
 
 loop-less : tie.Need-loop-less Inv-loop μ-loop
 loop-less c = search needs
@@ -123,7 +123,7 @@ loop-again c =
     (omega arith, c .before .translate-term .ensures ∙ begun-turn (d s) A (out s) (t k) _ row (k .before .before .loop .inv .1))
 
 same-length : tie.Need-same-length Inv-loop μ-loop
-same-length c = let l = c .before .loop in long (c .before .before .before) (l .t) (l .inv .0) (l .inv .1)
+same-length c = let l = c .before .loop in long (c .before .before .before) (l .done) (l .inv .0) (l .inv .1)
 
 returns : tie.Need-returns Inv-loop μ-loop
 unfolding translatedExponents
@@ -131,7 +131,7 @@ returns c =
     let s = c .before .before .before in
     let p = s .pre in
     let A = exponentsOf (P s) (f s) in
-    let all : c .before .loop .t ≡ terms (f s) = omega arith in
+    let all : c .before .loop .done ≡ terms (f s) = omega arith in
     let groups = groups-are (p .0) (p .1 .0) (p .1 .1 .0) in
     let g = groupCount (P s) (run (P s)) in
     (rw all at (c .before .loop .inv .1))
@@ -151,7 +151,7 @@ translate-all-spec =
     k-and-requires
     mul-translate-term
     translate-term-requires
-    add-t
+    add-done
     loop-less
     loop-again
     same-length

@@ -1,0 +1,98 @@
+// The bench's C calls: the build and the translation over bytes, each number in four of them, big-endian two's complement.
+ghost use Rattle.rules.specs.Bench.{benchBuildOf, benchTranslateOf};
+ghost use Rattle.bench.specs.Answers.{Builds, Translates};
+use scaling::BuildAnswer;
+use scaling::TranslateAnswer;
+
+mod words;
+
+use words::decode;
+use words::encode;
+use words::room;
+
+// A wrong length is handed on as one more than any right one, and a lent output without room as an empty one.
+#[no_mangle]
+pub extern "C" fn glaukemis_build(
+    m: u32,
+    n: u32,
+    matrix: &[u8],
+    moduli: &[u8],
+    h: &mut [u8],
+    v: &mut [u8],
+    w: &mut [u8],
+) -> BuildAnswer
+    ensures { λ r. ⌜ Builds (benchBuildOf m n (now (matrix .entry)) (now (moduli .entry)) (now (h .entry)) (now (v .entry)) (now (w .entry))) r (now (h .exit)) (now (v .exit)) (now (w .exit)) ⌝ }
+{
+    let mut a: [i32; 129] = [0; 129];
+    let entries = decode(matrix, &mut a);
+    let mut p: [i32; 9] = [0; 9];
+    let rows = decode(moduli, &mut p);
+    let mut x: [i32; 192] = [0; 192];
+    let mut y: [i32; 576] = [0; 576];
+    let mut z: [i32; 576] = [0; 576];
+    let i = room(h, 192);
+    let j = room(v, 576);
+    let k = room(w, 576);
+    let r = scaling::build(
+        m,
+        n,
+        &a[..entries],
+        &p[..rows],
+        &mut x[..i],
+        &mut y[..j],
+        &mut z[..k],
+    );
+    let number = r.number;
+    if number != 0 {
+        return r;
+    }
+    let cols = n as usize + r.moduli as usize;
+    encode(h, &x, m as usize * cols);
+    encode(v, &y, cols * cols);
+    encode(w, &z, cols * cols);
+    r
+}
+
+#[no_mangle]
+pub extern "C" fn glaukemis_translate(
+    m: u32,
+    n: u32,
+    matrix: &[u8],
+    moduli: &[u8],
+    coefficients: &[u8],
+    exponents: &[u8],
+    kept: &mut [u8],
+    translated: &mut [u8],
+) -> TranslateAnswer
+    ensures { λ r. ⌜ Translates (benchTranslateOf m n (now (matrix .entry)) (now (moduli .entry)) (now (coefficients .entry)) (now (exponents .entry)) (now (kept .entry)) (now (translated .entry))) r (now (kept .exit)) (now (translated .exit)) ⌝ }
+{
+    let mut a: [i32; 129] = [0; 129];
+    let entries = decode(matrix, &mut a);
+    let mut p: [i32; 9] = [0; 9];
+    let rows = decode(moduli, &mut p);
+    let mut c: [i32; 65] = [0; 65];
+    let terms = decode(coefficients, &mut c);
+    let mut e: [i32; 1025] = [0; 1025];
+    let powers = decode(exponents, &mut e);
+    let mut x: [i32; 64] = [0; 64];
+    let mut y: [i32; 1024] = [0; 1024];
+    let i = room(kept, 64);
+    let j = room(translated, 1024);
+    let r = scaling::translate(
+        m,
+        n,
+        &a[..entries],
+        &p[..rows],
+        &c[..terms],
+        &e[..powers],
+        &mut x[..i],
+        &mut y[..j],
+    );
+    let number = r.number;
+    if number != 0 {
+        return r;
+    }
+    encode(kept, &x, terms);
+    encode(translated, &y, terms * r.d as usize);
+    r
+}

@@ -1,0 +1,118 @@
+-- Digits of a text: what the tests of them say, and the bytes that they write.
+-- Assumes nothing.
+use mathlib.Core.Path.{_≡_, refl, sym, ap, ap₂, _∙_}
+use mathlib.Core.Bool.{Bool, true, false, cond, _&&_}
+use mathlib.Core.List.{List, [], _∷_}
+use Prim.Native.Nat.{ℕ, zero, suc, _+_, _-_, _*_, _/_, _<_, _≤_}
+use native.Mathlib.Omega.{arith}
+use borrow.Author.Tests.{leb-true, ltb-true, lt-ltb, le-ltb}
+use lib.Dec.{ltb, leb}
+use lib.ListN.{length, getD, take, drop, length-drop}
+use lib.Seq.{drop-cons, drop-drop, length-take-le}
+use Rattle.rules.specs.Frames.{digit, allDigits, unhex, whole, frameOf}
+use Rattle.frames.specs.Line.{pair}
+
+-- ---- tests
+pub and-left : (a b : Bool) → a && b ≡ true → a ≡ true
+and-left true b e = refl
+and-left false b e = e
+
+pub and-right : (a b : Bool) → a && b ≡ true → b ≡ true
+and-right true b e = e
+and-right false b e = let z : false ≡ true = e in let n : _≡_ {A = ℕ} 0 1 = cc in absurd (omega arith)
+
+-- ---- digits
+abbrev pub isDigit : ℕ → Bool
+isDigit b = ltb (digit b) 16
+
+pub digit-most : (b : ℕ) → digit b ≤ 16
+unfolding digit
+digit-most b = go (leb 48 b && leb b 57) (leb 97 b && leb b 102) (λ e. leb-true _ _ (and-right (leb 48 b) _ e)) (λ e. leb-true _ _ (and-right (leb 97 b) _ e))
+  where
+    go : (p q : Bool) → (p ≡ true → b ≤ 57) → (q ≡ true → b ≤ 102) → cond p (b - 48) (cond q (b - 87) 16) ≤ 16
+    go true q f g = let h = f refl in omega arith
+    go false true f g = let h = g refl in omega arith
+    go false false f g = omega arith
+
+-- of count digits k are behind: the next one, and the others
+digits-step : (s : List ℕ) (at count k : ℕ) → k < count → at + count ≤ length s
+    → allDigits (take (count - k) (drop (at + k) s)) ≡ isDigit (getD s (at + k) 0) && allDigits (take (count - (k + 1)) (drop (at + (k + 1)) s))
+digits-step s at count k h l =
+    let e : count - k ≡ suc (count - (k + 1)) = omega arith in
+    let f : suc (at + k) ≡ at + (k + 1) = omega arith in
+    let i : at + k < length s = omega arith in
+    rw (e, drop-cons s (at + k) 0, f)
+
+module _ (s : List ℕ) (at count k : ℕ) (h : k < count) (l : at + count ≤ length s)
+    (inv : allDigits (take count (drop at s)) ≡ allDigits (take (count - k) (drop (at + k) s))) where
+  pub digits-stop : digit (getD s (at + k) 0) ≡ 16 → false ≡ allDigits (take count (drop at s))
+  digits-stop e =
+      let f : 16 ≤ digit (getD s (at + k) 0) = omega arith in
+      sym (inv ∙ digits-step s at count k h l ∙ rw (le-ltb (digit (getD s (at + k) 0)) 16 f))
+
+  pub digits-on : (digit (getD s (at + k) 0) ≡ 16 → ⊥) → allDigits (take count (drop at s)) ≡ allDigits (take (count - (k + 1)) (drop (at + (k + 1)) s))
+  digits-on e =
+      let f : digit (getD s (at + k) 0) < 16 = omega (arith, digit-most (getD s (at + k) 0)) in
+      inv ∙ digits-step s at count k h l ∙ rw (lt-ltb (digit (getD s (at + k) 0)) 16 f)
+
+digits-part : (c i j : ℕ) (t : List ℕ) → allDigits (take c t) ≡ true → i + j ≤ c → allDigits (take j (drop i t)) ≡ true
+digits-part c zero zero t e h = refl
+digits-part c zero (suc j) [] e h = refl
+digits-part zero zero (suc j) (b ∷ t) e h = absurd (omega arith)
+digits-part (suc c) zero (suc j) (b ∷ t) e h =
+    ap₂ _&&_ (and-left (isDigit b) _ e) (digits-part c zero j t (and-right (isDigit b) _ e) (omega arith))
+digits-part c (suc i) zero [] e h = refl
+digits-part c (suc i) (suc j) [] e h = refl
+digits-part zero (suc i) j (b ∷ t) e h = absurd (omega arith)
+digits-part (suc c) (suc i) j (b ∷ t) e h = digits-part c i j t (and-right (isDigit b) _ e) (omega arith)
+
+-- the digits of a part of a line are digits
+pub part-digits : (s : List ℕ) (at c i j : ℕ) → allDigits (take c (drop at s)) ≡ true → i + j ≤ c → allDigits (take j (drop (at + i) s)) ≡ true
+part-digits s at c i j e h = rw drop-drop at (digits-part c i j (drop at s) e h)
+
+digit-small : (c i : ℕ) (t : List ℕ) → allDigits (take c t) ≡ true → i < c → i < length t → digit (getD t i 0) < 16
+digit-small c i [] e h l = absurd (omega arith)
+digit-small zero i (b ∷ t) e h l = absurd (omega arith)
+digit-small (suc c) zero (b ∷ t) e h l = ltb-true _ _ (and-left (isDigit b) _ e)
+digit-small (suc c) (suc i) (b ∷ t) e h l = digit-small c i t (and-right (isDigit b) _ e) (omega arith) (omega arith)
+
+-- ---- bytes
+pub pair-most : (t : List ℕ) → pair t ≤ 272
+unfolding pair
+pair-most t = omega (arith, digit-most (getD t 0 0), digit-most (getD t 1 0))
+
+-- a pair among c digits writes a byte
+pub pair-small : (s : List ℕ) (at c i : ℕ) → allDigits (take c (drop at s)) ≡ true → i + 2 ≤ c → at + c ≤ length s → pair (drop (at + i) s) < 256
+unfolding pair
+pair-small s at c i e h l =
+    let d = part-digits s at c i 2 e h in
+    let m = length-drop (at + i) s in
+    let p = digit-small 2 0 (drop (at + i) s) d (omega arith) (omega arith) in
+    let q = digit-small 2 1 (drop (at + i) s) d (omega arith) (omega arith) in
+    omega arith
+
+-- what stands after the digits does not matter
+unhex-cut : (c j : ℕ) (t : List ℕ) → 2 * c ≤ j → unhex c (take j t) ≡ unhex c t
+unfolding unhex
+unhex-cut zero j t h = refl
+unhex-cut (suc c) zero t h = absurd (omega arith)
+unhex-cut (suc c) (suc zero) t h = absurd (omega arith)
+unhex-cut (suc c) (suc (suc j)) [] h = refl
+unhex-cut (suc c) (suc (suc j)) (x ∷ []) h = refl
+unhex-cut (suc c) (suc (suc j)) (x ∷ y ∷ t) h = ap (λ (bs : List ℕ). (16 * digit x + digit y) ∷ bs) (unhex-cut c j t (omega arith))
+
+pub unhex-drop : (k c j : ℕ) (t : List ℕ) → j ≡ k + c → drop k (unhex j t) ≡ unhex c (drop (2 * k) t)
+unfolding unhex
+unhex-drop zero c j t e = let f : j ≡ c = omega arith in rw f
+unhex-drop (suc k) c zero t e = absurd (omega arith)
+unhex-drop (suc k) c (suc j) t e =
+    let f : 2 + 2 * k ≡ 2 * suc k = omega arith in
+    unhex-drop k c j (drop 2 t) (omega arith) ∙ rw drop-drop (ap (λ (i : ℕ). unhex c (drop i t)) f)
+
+-- the bytes of a line that is the first c pairs of digits of a text
+pub frame-is : (c j : ℕ) (t : List ℕ) → j ≡ 2 * c → j ≤ length t → frameOf (whole (take j t)) ≡ unhex c t
+unfolding frameOf
+frame-is c j t e h =
+    let l : length (take j t) ≡ j = length-take-le j t h in
+    let d : j / 2 ≡ c = omega arith in
+    rw (l, d) (unhex-cut c j t (omega arith))

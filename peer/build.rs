@@ -1,0 +1,11 @@
+//! With the feature `bench`, tells the linker where the C library stands.
+
+fn main() {
+    println!("cargo:rerun-if-changed=build.rs");
+    if std::env::var_os("CARGO_FEATURE_BENCH").is_some() {
+        let package = std::env::var("CARGO_MANIFEST_DIR").expect("cargo sets this");
+        let place = format!("{package}/../target/staticlib");
+        println!("cargo:rerun-if-changed={place}/libbench.a");
+        println!("cargo:rustc-link-search=native={place}");
+    }
+}

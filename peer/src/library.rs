@@ -1,0 +1,522 @@
+//! What is compared with the model: the C library, or something in its place.
+
+use crate::model::calls::{
+    build_bytes, flat, to_bytes, translate_bytes, BuildAnswer, TranslateAnswer,
+};
+use crate::model::steps::{run, Of, Until};
+use crate::model::{calls, Problem, M};
+
+/// The two calls of the C library on byte slices.
+pub trait Library {
+    #[allow(clippy::too_many_arguments)]
+    fn build(
+        &mut self,
+        m: u32,
+        n: u32,
+        matrix: &[u8],
+        moduli: &[u8],
+        h: &mut [u8],
+        v: &mut [u8],
+        w: &mut [u8],
+    ) -> BuildAnswer;
+
+    #[allow(clippy::too_many_arguments)]
+    fn translate(
+        &mut self,
+        m: u32,
+        n: u32,
+        matrix: &[u8],
+        moduli: &[u8],
+        coefficients: &[u8],
+        exponents: &[u8],
+        kept: &mut [u8],
+        translated: &mut [u8],
+    ) -> TranslateAnswer;
+}
+
+/// The C library ../target/staticlib/libbench.a.
+#[cfg(feature = "bench")]
+pub struct CLibrary;
+
+#[cfg(feature = "bench")]
+mod c {
+    use super::{BuildAnswer, TranslateAnswer};
+
+    #[link(name = "bench", kind = "static")]
+    extern "C" {
+        pub fn glaukemis_build(
+            m: u32,
+            n: u32,
+            matrix: *const u8,
+            matrix_len: usize,
+            moduli: *const u8,
+            moduli_len: usize,
+            h: *mut u8,
+            h_len: usize,
+            v: *mut u8,
+            v_len: usize,
+            w: *mut u8,
+            w_len: usize,
+        ) -> BuildAnswer;
+
+        pub fn glaukemis_translate(
+            m: u32,
+            n: u32,
+            matrix: *const u8,
+            matrix_len: usize,
+            moduli: *const u8,
+            moduli_len: usize,
+            coefficients: *const u8,
+            coefficients_len: usize,
+            exponents: *const u8,
+            exponents_len: usize,
+            kept: *mut u8,
+            kept_len: usize,
+            translated: *mut u8,
+            translated_len: usize,
+        ) -> TranslateAnswer;
+    }
+}
+
+#[cfg(feature = "bench")]
+impl Library for CLibrary {
+    fn build(
+        &mut self,
+        m: u32,
+        n: u32,
+        matrix: &[u8],
+        moduli: &[u8],
+        h: &mut [u8],
+        v: &mut [u8],
+        w: &mut [u8],
+    ) -> BuildAnswer {
+        // Sound: each pointer and length come from one slice, and the outputs
+        // do not overlap.
+        unsafe {
+            c::glaukemis_build(
+                m,
+                n,
+                matrix.as_ptr(),
+                matrix.len(),
+                moduli.as_ptr(),
+                moduli.len(),
+                h.as_mut_ptr(),
+                h.len(),
+                v.as_mut_ptr(),
+                v.len(),
+                w.as_mut_ptr(),
+                w.len(),
+            )
+        }
+    }
+
+    fn translate(
+        &mut self,
+        m: u32,
+        n: u32,
+        matrix: &[u8],
+        moduli: &[u8],
+        coefficients: &[u8],
+        exponents: &[u8],
+        kept: &mut [u8],
+        translated: &mut [u8],
+    ) -> TranslateAnswer {
+        // Sound: as above.
+        unsafe {
+            c::glaukemis_translate(
+                m,
+                n,
+                matrix.as_ptr(),
+                matrix.len(),
+                moduli.as_ptr(),
+                moduli.len(),
+                coefficients.as_ptr(),
+                coefficients.len(),
+                exponents.as_ptr(),
+                exponents.len(),
+                kept.as_mut_ptr(),
+                kept.len(),
+                translated.as_mut_ptr(),
+                translated.len(),
+            )
+        }
+    }
+}
+
+/// The model itself in the library's place.
+pub struct Model;
+
+impl Library for Model {
+    fn build(
+        &mut self,
+        m: u32,
+        n: u32,
+        matrix: &[u8],
+        moduli: &[u8],
+        h: &mut [u8],
+        v: &mut [u8],
+        w: &mut [u8],
+    ) -> BuildAnswer {
+        build_bytes(m, n, matrix, moduli, h, v, w)
+    }
+
+    fn translate(
+        &mut self,
+        m: u32,
+        n: u32,
+        matrix: &[u8],
+        moduli: &[u8],
+        coefficients: &[u8],
+        exponents: &[u8],
+        kept: &mut [u8],
+        translated: &mut [u8],
+    ) -> TranslateAnswer {
+        translate_bytes(
+            m,
+            n,
+            matrix,
+            moduli,
+            coefficients,
+            exponents,
+            kept,
+            translated,
+        )
+    }
+}
+
+/// The ways in which `Damaged` is wrong.
+#[derive(Clone, Copy, Debug, PartialEq, Eq)]
+pub enum Damage {
+    /// A refusal with another number, or with another place.
+    Number,
+    Place,
+    /// A refusal with a field that is not zero.
+    FieldOnRefusal,
+    /// A refusal that touches the first byte of an output.
+    TouchOnRefusal,
+    /// A build with another rank, count of moduli or count of steps.
+    Rank,
+    Moduli,
+    Steps,
+    /// A build with another last entry of H, V or W.
+    H,
+    V,
+    W,
+    /// A build that writes behind W's last entry.
+    BehindW,
+    /// A translation with another d, coefficient or exponent.
+    D,
+    Kept,
+    Translated,
+    /// A translation that writes behind the last exponent.
+    BehindTranslated,
+    /// Every run that holds -(M + 1) but nothing further out is accepted, as by
+    /// a 32-bit number.
+    LeastPasses,
+    /// Every run that comes to M or -M is refused 7.
+    MostIsRefused,
+    /// Values beyond M are looked for in two of T, V and W only; what ends
+    /// within M is accepted.
+    WithoutT,
+    WithoutV,
+    WithoutW,
+}
+
+pub const DAMAGES: [Damage; 20] = [
+    Damage::Number,
+    Damage::Place,
+    Damage::FieldOnRefusal,
+    Damage::TouchOnRefusal,
+    Damage::Rank,
+    Damage::Moduli,
+    Damage::Steps,
+    Damage::H,
+    Damage::V,
+    Damage::W,
+    Damage::BehindW,
+    Damage::D,
+    Damage::Kept,
+    Damage::Translated,
+    Damage::BehindTranslated,
+    Damage::LeastPasses,
+    Damage::MostIsRefused,
+    Damage::WithoutT,
+    Damage::WithoutV,
+    Damage::WithoutW,
+];
+
+/// The model with one answer damaged (with the last five damages, which judge a
+/// run otherwise, every answer that they touch), to see that a comparison can
+/// fail.
+pub struct Damaged {
+    damage: Damage,
+    /// How many answers that can be damaged come before the one that is.
+    before: usize,
+}
+
+impl Damaged {
+    pub fn new(damage: Damage, before: usize) -> Damaged {
+        Damaged { damage, before }
+    }
+
+    /// Whether this answer, which can be damaged so, is the one.
+    fn now(&mut self, damage: Damage, possible: bool) -> bool {
+        if damage != self.damage || !possible {
+            return false;
+        }
+        let now = self.before == 0;
+        self.before = self.before.wrapping_sub(1);
+        now
+    }
+
+    /// A problem's build as the last five damages would have it.
+    fn of_run(&self, problem: &Problem, h: &mut [u8], v: &mut [u8], w: &mut [u8]) -> BuildAnswer {
+        let run = run(problem, Until::TheEnd);
+        let extremes = run.work.extremes;
+        let all_but = |of: Of| {
+            let ended = [&run.work.t, &run.work.v, &run.work.w];
+            let ends_within = ended.into_iter().flatten().flatten().all(|x| x.abs() <= M);
+            let others = (0..3).filter(|&other| other != of as usize);
+            let mut sizes = others.map(|other| extremes[other].most.max(-extremes[other].least));
+            ends_within && sizes.all(|size| size <= M)
+        };
+        let within = match self.damage {
+            Damage::LeastPasses => extremes.iter().all(|e| -M - 1 <= e.least && e.most <= M),
+            Damage::WithoutT => all_but(Of::T),
+            Damage::WithoutV => all_but(Of::V),
+            Damage::WithoutW => all_but(Of::W),
+            _ => run.work.peak() < M,
+        };
+        let mut answer = BuildAnswer {
+            number: 7,
+            place: 0,
+            rank: 0,
+            moduli: 0,
+            steps: 0,
+        };
+        if let (Some(rank), true) = (run.rank, within) {
+            answer.number = 0;
+            answer.rank = rank as u32;
+            answer.moduli = problem.s() as u32;
+            answer.steps = run.work.steps;
+            for (output, matrix) in [(h, &run.work.t), (v, &run.work.v), (w, &run.work.w)] {
+                let bytes = to_bytes(&flat(matrix));
+                output[..bytes.len()].copy_from_slice(&bytes);
+            }
+        }
+        answer
+    }
+}
+
+impl Library for Damaged {
+    fn build(
+        &mut self,
+        m: u32,
+        n: u32,
+        matrix: &[u8],
+        moduli: &[u8],
+        h: &mut [u8],
+        v: &mut [u8],
+        w: &mut [u8],
+    ) -> BuildAnswer {
+        let saved = (h.to_vec(), v.to_vec(), w.to_vec());
+        let mut answer = build_bytes(m, n, matrix, moduli, h, v, w);
+        let good = answer.number == 0;
+        let size = if good {
+            (n + answer.moduli) as usize
+        } else {
+            0
+        };
+        if self.now(Damage::Number, !good) {
+            answer.number += 1;
+        }
+        if self.now(Damage::Place, !good) {
+            answer.place += 1;
+        }
+        if self.now(Damage::FieldOnRefusal, !good) {
+            answer.steps = 1;
+        }
+        if self.now(Damage::TouchOnRefusal, !good && !v.is_empty()) {
+            v[0] ^= 1;
+        }
+        if self.now(Damage::Rank, good) {
+            answer.rank += 1;
+        }
+        if self.now(Damage::Moduli, good) {
+            answer.moduli += 1;
+        }
+        if self.now(Damage::Steps, good) {
+            answer.steps += 1;
+        }
+        if self.now(Damage::H, good) {
+            h[4 * m as usize * size - 1] ^= 1;
+        }
+        if self.now(Damage::V, good) {
+            v[4 * size * size - 1] ^= 1;
+        }
+        if self.now(Damage::W, good) {
+            w[4 * size * size - 1] ^= 1;
+        }
+        if self.now(Damage::BehindW, good && 4 * size * size < w.len()) {
+            w[4 * size * size] ^= 1;
+        }
+        let by_run = matches!(
+            self.damage,
+            Damage::LeastPasses
+                | Damage::MostIsRefused
+                | Damage::WithoutT
+                | Damage::WithoutV
+                | Damage::WithoutW
+        );
+        if by_run && (good || answer.number == 7) {
+            h.copy_from_slice(&saved.0);
+            v.copy_from_slice(&saved.1);
+            w.copy_from_slice(&saved.2);
+            let problem = Problem::new(
+                m as usize,
+                n as usize,
+                calls::from_bytes(matrix),
+                calls::from_bytes(moduli),
+            );
+            answer = self.of_run(&problem, h, v, w);
+        }
+        answer
+    }
+
+    fn translate(
+        &mut self,
+        m: u32,
+        n: u32,
+        matrix: &[u8],
+        moduli: &[u8],
+        coefficients: &[u8],
+        exponents: &[u8],
+        kept: &mut [u8],
+        translated: &mut [u8],
+    ) -> TranslateAnswer {
+        let mut answer = translate_bytes(
+            m,
+            n,
+            matrix,
+            moduli,
+            coefficients,
+            exponents,
+            kept,
+            translated,
+        );
+        let good = answer.number == 0;
+        let written = coefficients.len() * answer.d as usize;
+        if self.now(Damage::D, good) {
+            answer.d += 1;
+        }
+        if self.now(Damage::Kept, good && !coefficients.is_empty()) {
+            kept[coefficients.len() - 1] ^= 1;
+        }
+        if self.now(Damage::Translated, good && written > 0) {
+            translated[written - 1] ^= 1;
+        }
+        if self.now(Damage::BehindTranslated, good && written < translated.len()) {
+            translated[written] ^= 1;
+        }
+        answer
+    }
+}
+
+#[cfg(test)]
+mod tests {
+    use super::*;
+    use crate::comparing::{Call, Tally};
+    use crate::generate;
+    use crate::random::Random;
+
+    fn tally(library: &mut dyn Library, calls: &[Call]) -> Tally {
+        let mut tally = Tally::default();
+        let mut patterns = Random::new(2);
+        for call in calls {
+            let _ = tally.compare(library, call, &mut patterns);
+        }
+        tally
+    }
+
+    /// The model passes, and each damage is seen.
+    #[test]
+    fn damages_are_seen() {
+        let mut random = Random::new(1);
+        let mut calls = generate::known_and_near_m();
+        calls.extend((0..600).map(|_| generate::call(&mut random)));
+        assert_eq!(tally(&mut Model, &calls).failed, 0);
+        for damage in DAMAGES {
+            let mut library = Damaged::new(damage, 3);
+            let failed = tally(&mut library, &calls).failed;
+            assert!(failed > 0, "{damage:?} was not seen");
+        }
+    }
+
+    /// The calls on number slices answer as those on byte slices do.
+    #[test]
+    fn number_slices_and_byte_slices() {
+        let mut random = Random::new(3);
+        let mut refusals = [0; 11];
+        for _ in 0..3000 {
+            let mut call = generate::call(&mut random);
+            for length in [&mut call.h, &mut call.v, &mut call.w] {
+                *length -= *length % 4;
+            }
+            for bytes in [
+                &mut call.matrix,
+                &mut call.moduli,
+                &mut call.coefficients,
+                &mut call.exponents,
+            ] {
+                bytes.truncate(bytes.len() / 4 * 4);
+            }
+            call.kept -= call.kept % 4;
+            call.translated -= call.translated % 4;
+
+            let mut bytes = [call.h, call.v, call.w].map(|length| vec![7u8; length]);
+            let mut numbers = [0, 1, 2].map(|i: usize| calls::from_bytes(&bytes[i]));
+            let [h, v, w] = &mut bytes;
+            let answer = Model.build(call.m, call.n, &call.matrix, &call.moduli, h, v, w);
+            let matrix = calls::from_bytes(&call.matrix);
+            let moduli = calls::from_bytes(&call.moduli);
+            let [h, v, w] = &mut numbers;
+            let same = calls::build(call.m, call.n, &matrix, &moduli, h, v, w);
+            assert_eq!(answer, same);
+            for i in 0..3 {
+                assert_eq!(bytes[i], to_bytes(&numbers[i]));
+            }
+
+            let mut bytes = [call.kept, call.translated].map(|length| vec![7u8; length]);
+            let mut numbers = [0, 1].map(|i: usize| calls::from_bytes(&bytes[i]));
+            let [kept, translated] = &mut bytes;
+            let answer = Model.translate(
+                call.m,
+                call.n,
+                &call.matrix,
+                &call.moduli,
+                &call.coefficients,
+                &call.exponents,
+                kept,
+                translated,
+            );
+            let [kept, translated] = &mut numbers;
+            let same = calls::translate(
+                call.m,
+                call.n,
+                &matrix,
+                &moduli,
+                &calls::from_bytes(&call.coefficients),
+                &calls::from_bytes(&call.exponents),
+                kept,
+                translated,
+            );
+            assert_eq!(answer, same);
+            for i in 0..2 {
+                assert_eq!(bytes[i], to_bytes(&numbers[i]));
+            }
+            refusals[answer.number as usize] += 1;
+        }
+        // All but 9, and 10, which is the program's.
+        assert!(refusals[..9].iter().all(|&count| count > 0), "{refusals:?}");
+    }
+}
