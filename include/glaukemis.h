@@ -21,7 +21,9 @@
  * STATE AND THREADS. The calls keep no state. They may be made from several threads at once, so long as no thread writes a buffer that
  * another one is reading or writing.
  *
- * STACK. Each call needs at most STACK-BYTES bytes of stack. (To be filled in with the measured number.)
+ * STACK. A call takes at most 64 KB of stack, and 10,880 bytes more for each repetition of document 01's (A) within one row. 1 MB is
+ * enough for 90 repetitions; the deepest problem known to us takes 35. No problem takes more than 744, for which 8.2 MB are enough.
+ * (Measured in the compiled code for x86-64; the bound of 744 is proved.)
  */
 #ifndef GLAUKEMIS_H
 #define GLAUKEMIS_H

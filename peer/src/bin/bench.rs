@@ -1,6 +1,6 @@
-//! `bench` prints the µs per build of the C library (feature `bench`) and of the
-//! model for four shapes, on fixed random problems with small entries that are
-//! accepted. It asserts no time.
+//! `bench` prints the µs per build of the C library (feature `bench`), of FLINT and
+//! PARI doing the same task (feature `others`), and of the model, for four shapes,
+//! on fixed random problems with small entries that are accepted. It asserts no time.
 
 use peer::library::{Library, Model};
 use peer::model::calls::{build_numbers, to_bytes, H_SIZE, V_SIZE, W_SIZE};
@@ -27,8 +27,24 @@ fn problems(m: usize, n: usize) -> Vec<Problem> {
     found
 }
 
-/// The µs per build: the least of five rounds, each over all of the problems,
-/// many times.
+/// The µs per call: the least of five rounds, each over all of the calls, many times.
+fn least_of_rounds<Call>(calls: &[Call], mut one: impl FnMut(&Call)) -> f64 {
+    let mut least = f64::INFINITY;
+    for _ in 0..5 {
+        let mut builds = 0;
+        let begin = Instant::now();
+        while begin.elapsed().as_millis() < 100 {
+            for call in calls {
+                one(call);
+                builds += 1;
+            }
+        }
+        least = least.min(begin.elapsed().as_secs_f64() * 1e6 / f64::from(builds));
+    }
+    least
+}
+
+/// The µs per build of a library of the C calls.
 fn time(library: &mut dyn Library, problems: &[Problem]) -> f64 {
     let calls: Vec<(u32, u32, Vec<u8>, Vec<u8>)> = problems
         .iter()
@@ -40,20 +56,10 @@ fn time(library: &mut dyn Library, problems: &[Problem]) -> f64 {
     let mut h = vec![0; 4 * H_SIZE];
     let mut v = vec![0; 4 * V_SIZE];
     let mut w = vec![0; 4 * W_SIZE];
-    let mut least = f64::INFINITY;
-    for _ in 0..5 {
-        let mut builds = 0;
-        let begin = Instant::now();
-        while begin.elapsed().as_millis() < 100 {
-            for (m, n, matrix, moduli) in &calls {
-                let answer = library.build(*m, *n, matrix, moduli, &mut h, &mut v, &mut w);
-                assert_eq!(std::hint::black_box(answer).number, 0, "accepted problems");
-                builds += 1;
-            }
-        }
-        least = least.min(begin.elapsed().as_secs_f64() * 1e6 / f64::from(builds));
-    }
-    least
+    least_of_rounds(&calls, |(m, n, matrix, moduli)| {
+        let answer = library.build(*m, *n, matrix, moduli, &mut h, &mut v, &mut w);
+        assert_eq!(std::hint::black_box(answer).number, 0, "accepted problems");
+    })
 }
 
 /// The C library, if this was built with it.
@@ -68,26 +74,83 @@ fn c_library() -> Option<Box<dyn Library>> {
     None
 }
 
+/// FLINT's and PARI's builds (others.c), where this was linked with them.
+#[cfg(feature = "others")]
+mod others {
+    use super::{least_of_rounds, Problem};
+    use peer::model::calls::build_numbers;
+
+    pub type Build = unsafe extern "C" fn(usize, usize, *const i32, *mut i32, *mut i32, *mut i32);
+
+    #[link(name = "others", kind = "static")]
+    #[link(name = "flint")]
+    #[link(name = "gmp")]
+    #[link(name = "pari")]
+    extern "C" {
+        fn flint_build(m: usize, n: usize, a: *const i32, h: *mut i32, v: *mut i32, w: *mut i32);
+        fn pari_build(m: usize, n: usize, a: *const i32, h: *mut i32, v: *mut i32, w: *mut i32);
+    }
+
+    pub const ALL: [(&str, Build); 2] = [("FLINT", flint_build), ("PARI", pari_build)];
+
+    /// The µs per build, after a look that each answer is the model's.
+    pub fn time(build: Build, problems: &[Problem]) -> f64 {
+        let numbers = |xs: &[i128]| xs.iter().map(|&x| x as i32).collect::<Vec<i32>>();
+        let calls: Vec<(usize, usize, Vec<i32>)> =
+            problems.iter().map(|p| (p.m, p.n, numbers(&p.matrix))).collect();
+        let (mut h, mut v, mut w) = ([0; 192], [0; 576], [0; 576]);
+        let mut one = |(m, n, a): &(usize, usize, Vec<i32>)| {
+            // The matrix has m·n entries, and the outputs have room for 8 by 24 and 24 by 24.
+            unsafe { build(*m, *n, a.as_ptr(), h.as_mut_ptr(), v.as_mut_ptr(), w.as_mut_ptr()) };
+            (h, v, w)
+        };
+        for (problem, call) in problems.iter().zip(&calls) {
+            let right = build_numbers(problem).expect("accepted");
+            let (h, v, w) = one(call);
+            let flat = |rows: &Vec<Vec<i128>>| numbers(&rows.concat());
+            assert_eq!(h[..problem.m * problem.n], flat(&right.h)[..], "the same H");
+            assert_eq!(v[..problem.n * problem.n], flat(&right.v)[..], "the same V");
+            assert_eq!(w[..problem.n * problem.n], flat(&right.w)[..], "the same W");
+        }
+        least_of_rounds(&calls, |call| {
+            std::hint::black_box(one(call));
+        })
+    }
+}
+
+#[cfg(feature = "others")]
+fn other_times(problems: &[Problem]) -> Vec<(&'static str, f64)> {
+    let timed = others::ALL.map(|(name, build)| (name, others::time(build, problems)));
+    timed.to_vec()
+}
+
+#[cfg(not(feature = "others"))]
+fn other_times(_: &[Problem]) -> Vec<(&'static str, f64)> {
+    Vec::new()
+}
+
 fn main() {
     let mut library = c_library();
-    println!("µs per build, {PROBLEMS} problems of each shape");
-    println!("shape   steps   C library       model   library/model");
+    println!("µs per build, {PROBLEMS} problems of each shape; in brackets how many times the C library's");
     for (m, n) in SHAPES {
         let problems = problems(m, n);
         let steps: u64 = problems
             .iter()
             .map(|p| build_numbers(p).expect("accepted").steps)
             .sum();
-        let steps = steps as f64 / PROBLEMS as f64;
-        let model = time(&mut Model, &problems);
-        let shape = format!("{m}x{n}");
-        match &mut library {
-            Some(library) => {
-                let c = time(library.as_mut(), &problems);
-                let ratio = c / model;
-                println!("{shape:<6} {steps:>6.1} {c:>11.2} {model:>11.2} {ratio:>15.3}");
-            }
-            None => println!("{shape:<6} {steps:>6.1} {:>11} {model:>11.2}", "-"),
+        print!("{m}x{n}: {:.1} steps", steps as f64 / PROBLEMS as f64);
+        let own = library.as_mut().map(|library| time(library.as_mut(), &problems));
+        if let Some(own) = own {
+            print!(", C library {own:.2}");
         }
+        let mut rest = other_times(&problems);
+        rest.push(("model", time(&mut Model, &problems)));
+        for (name, other) in rest {
+            print!(", {name} {other:.2}");
+            if let Some(own) = own {
+                print!(" ({:.1})", other / own);
+            }
+        }
+        println!();
     }
 }
