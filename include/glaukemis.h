@@ -22,7 +22,7 @@
  * another one is reading or writing.
  *
  * STACK. A call takes at most 64 KB of stack, and 10,880 bytes more for each repetition of document 01's (A) within one row. 1 MB is
- * enough for 90 repetitions; the deepest problem known to us takes 35. No problem takes more than 744, for which 8.2 MB are enough.
+ * enough for 90 repetitions; the deepest problem that our search found takes 29. No problem takes more than 744, for which 8.2 MB are enough.
  * (Measured in the compiled code for x86-64; the bound of 744 is proved.)
  */
 #ifndef GLAUKEMIS_H
