@@ -79,6 +79,7 @@ fn c_library() -> Option<Box<dyn Library>> {
 mod others {
     use super::{least_of_rounds, Problem};
     use peer::model::calls::build_numbers;
+    use peer::model::Matrix;
 
     pub type Build = unsafe extern "C" fn(usize, usize, *const i32, *mut i32, *mut i32, *mut i32);
 
@@ -95,19 +96,30 @@ mod others {
 
     /// The µs per build, after a look that each answer is the model's.
     pub fn time(build: Build, problems: &[Problem]) -> f64 {
-        let numbers = |xs: &[i128]| xs.iter().map(|&x| x as i32).collect::<Vec<i32>>();
-        let calls: Vec<(usize, usize, Vec<i32>)> =
-            problems.iter().map(|p| (p.m, p.n, numbers(&p.matrix))).collect();
+        let calls: Vec<(usize, usize, Vec<i32>)> = problems
+            .iter()
+            .map(|p| (p.m, p.n, p.matrix.clone()))
+            .collect();
         let (mut h, mut v, mut w) = ([0; 192], [0; 576], [0; 576]);
         let mut one = |(m, n, a): &(usize, usize, Vec<i32>)| {
             // The matrix has m·n entries, and the outputs have room for 8 by 24 and 24 by 24.
-            unsafe { build(*m, *n, a.as_ptr(), h.as_mut_ptr(), v.as_mut_ptr(), w.as_mut_ptr()) };
+            unsafe {
+                build(
+                    *m,
+                    *n,
+                    a.as_ptr(),
+                    h.as_mut_ptr(),
+                    v.as_mut_ptr(),
+                    w.as_mut_ptr(),
+                )
+            };
             (h, v, w)
         };
         for (problem, call) in problems.iter().zip(&calls) {
             let right = build_numbers(problem).expect("accepted");
             let (h, v, w) = one(call);
-            let flat = |rows: &Vec<Vec<i128>>| numbers(&rows.concat());
+            let flat =
+                |rows: &Matrix| -> Vec<i32> { rows.concat().iter().map(|&x| x as i32).collect() };
             assert_eq!(h[..problem.m * problem.n], flat(&right.h)[..], "the same H");
             assert_eq!(v[..problem.n * problem.n], flat(&right.v)[..], "the same V");
             assert_eq!(w[..problem.n * problem.n], flat(&right.w)[..], "the same W");
@@ -139,7 +151,9 @@ fn main() {
             .map(|p| build_numbers(p).expect("accepted").steps)
             .sum();
         print!("{m}x{n}: {:.1} steps", steps as f64 / PROBLEMS as f64);
-        let own = library.as_mut().map(|library| time(library.as_mut(), &problems));
+        let own = library
+            .as_mut()
+            .map(|library| time(library.as_mut(), &problems));
         if let Some(own) = own {
             print!(", C library {own:.2}");
         }
