@@ -1,11 +1,13 @@
 -- Document 01, "What the work covers" and "Hermite form and the normal multiplier", its first paragraph: a problem and its matrix C.
 -- Rows and columns count from 0.
+use mathlib.Core.Path.{_≡_}
 use mathlib.Core.Bool.{Bool, true, false}
 use mathlib.Core.List.{List, [], _∷_, _++_, map}
-use Prim.Native.Nat.{ℕ, zero, suc, _+_, _*_}
+use Prim.Native.Nat.{ℕ, zero, suc, _+_, _*_, _≤_}
 use lib.Dec.{eqb}
 use lib.ListN.{length, getD}
-use lib.IntN.{ℤ, pos, negℤ}
+use lib.IntN.{ℤ, pos, negℤ, natAbs}
+use lib.Signed.{_≤ℤ_}
 use Rattle.whole.specs.Lists.{nth, tab}
 use Rattle.whole.specs.Matrix.{Matrix}
 use Rattle.rules.specs.Limits.{isZero}
@@ -23,6 +25,19 @@ entry P i j = nth (P .matrix) (i * P .n + j)
 
 abbrev pub modulus : Problem → ℕ → ℤ
 modulus P i = nth (P .moduli) i
+
+-- "m is 1 to 8; n is 1 to 16; entries -1000 to 1000; moduli 0 to 1000", with as many entries and moduli as m and n say.
+-- Past the end of a list nth is 0, so that each i may be asked.
+pub record WellFormed (P : Problem) : Type 0 where
+  pub m-low : 1 ≤ P .m
+  pub m-high : P .m ≤ 8
+  pub n-low : 1 ≤ P .n
+  pub n-high : P .n ≤ 16
+  pub matrix : length (P .matrix) ≡ P .m * P .n
+  pub moduli : length (P .moduli) ≡ P .m
+  pub entries : (i : ℕ) → natAbs (nth (P .matrix) i) ≤ 1000
+  pub moduli-low : (i : ℕ) → pos 0 ≤ℤ nth (P .moduli) i
+  pub moduli-high : (i : ℕ) → natAbs (nth (P .moduli) i) ≤ 1000
 
 -- the rows with a modulus ("0 says the row has none"), from the top row down; i is the row of the first modulus listed
 unfoldable pub modulusRowsFrom : (i : ℕ) → List ℤ → List ℕ
