@@ -15,7 +15,7 @@ pub fn known() -> Vec<Problem> {
         ten(),
         eleven(),
         twelve(),
-        thirteen(1000),
+        thirteen([1, 1000]),
     ]
 }
 
@@ -79,8 +79,9 @@ pub fn twelve() -> Problem {
     )
 }
 
-pub fn thirteen(entry: i32) -> Problem {
-    Problem::of_rows(&[&[1, entry]], &[0])
+/// One row of two entries; document 01 names none but 1000 and 1001.
+pub fn thirteen(entries: [i32; 2]) -> Problem {
+    Problem::of_rows(&[&entries], &[0])
 }
 
 #[cfg(test)]
@@ -249,11 +250,11 @@ mod tests {
 
     #[test]
     fn problem_13() {
-        built(&thirteen(1000));
-        let refusal = calls::build_numbers(&thirteen(1001)).expect_err("refused");
+        built(&thirteen([1, 1000]));
+        let refusal = calls::build_numbers(&thirteen([1, 1001])).expect_err("refused");
         assert_eq!(refusal, refused(5, 1));
         let [p, q] = [10_000, -10_000];
-        let same = Problem::of_rows(&[&[1, 1]], &[0]);
+        let same = thirteen([1, 1]);
         calls::translate_numbers(&same, &[p, q]).expect("taken");
         let refusal = calls::translate_numbers(&same, &[0, 0, p, q - 1]).expect_err("refused");
         assert_eq!(refusal, refused(6, 3));
