@@ -19,10 +19,16 @@ use Rattle.theory.proofs.Entries.{add-off}
 use Rattle.scaling.specs.declared.work.Work.{Work}
 use Rattle.scaling.specs.Join.{stateOf, Fine, Tracks, Same, tableFor}
 use Rattle.scaling.specs.Scan.{Divisible}
-use Rattle.scaling.specs.Rows.{Pivot, Reduced}
+use Rattle.scaling.specs.Rows.{sizesIn, Pivot}
 use Rattle.scaling.proofs.TableRow.{RowIn, size-in, size-small}
 use Rattle.scaling.proofs.State.{state-steps}
 use Rattle.scaling.proofs.Tracking.{add-steps, same-tracks}
+
+-- one column came into range
+pub record Reduced (stage2 : Bool) (m n row b c : ℕ) (s r : Work) : Type 0 where
+  pub tracks : Tracks m n r (reduce (tableFor stage2) row b c (stateOf m n s))
+  pub pivot : r .over ≡ false → sizesIn stage2 m n r row b ≡ sizesIn stage2 m n s row b
+  pub counted : r .over ≡ false → r .steps ≤ s .steps + 1
 
 -- ---- the pivot's column to its place
 pub bring-not : (b : ℕ) (u : State) → bring b b u ≡ u

@@ -20,14 +20,15 @@ use Rattle.theory.proofs.Entries.{swap-get, negate-at}
 use Rattle.theory.proofs.Flag.{reduce-over}
 use Rattle.scaling.specs.declared.work.Work.{Work}
 use Rattle.scaling.specs.Join.{stateOf, Fine, Same, tableFor}
-use Rattle.scaling.specs.Rows.{sizesIn, Pivot, Reduced, Apart, AllReduced, Settled}
-use Rattle.scaling.proofs.State.{state-count, state-steps}
+use Rattle.scaling.specs.Rows.{sizesIn, Pivot, Apart, AllReduced, Settled}
+use Rattle.scaling.proofs.State.{state-count, state-steps, Long}
 use Rattle.scaling.proofs.Tracking.{over-tracks, same-tracks}
-use Rattle.scaling.proofs.Reducing.{bring-not, bring-swaps}
+use Rattle.scaling.proofs.Reducing.{bring-not, bring-swaps, Reduced}
 
 -- ---- columns lo to c are done
 pub record Reducing (stage2 : Bool) (m n row b lo hi c : ℕ) (s u : Work) : Type 0 where
   pub fine : Fine m n u
+  pub long : Long u
   pub same : stateOf m n u ≡ each (reduce (tableFor stage2) row b) lo c (stateOf m n s)
   pub from : lo ≤ c
   pub upto : hi < c → c ≡ lo
@@ -45,9 +46,10 @@ each-over tb row b lo c (suc d) u h l e = go (ℕ-discrete c (suc d)) (λ k. eac
     go (no z) r = rw (each-step (reduce tb row b) lo u d (omega arith)) (reduce-over tb row b d (each (reduce tb row b) lo d u) (r (omega arith)))
 
 module _ {stage2 : Bool} {m n row b : ℕ} {s : Work} where
-  pub reducing-start : Fine m n s → (lo hi : ℕ) → Reducing stage2 m n row b lo hi lo s s
-  reducing-start f lo hi = record {
+  pub reducing-start : Fine m n s → Long s → (lo hi : ℕ) → Reducing stage2 m n row b lo hi lo s s
+  reducing-start f l lo hi = record {
     fine = f;
+    long = l;
     same = sym (each-start (reduce (tableFor stage2) row b) lo (stateOf m n s) lo (omega arith));
     from = omega arith;
     upto = λ _. refl;
@@ -83,9 +85,10 @@ module _ {stage2 : Bool} {m n row b : ℕ} {s : Work} where
         one : reduce (tableFor stage2) row b c (stateOf m n u) ≡ each (reduce (tableFor stage2) row b) lo (suc c) (stateOf m n s)
         one = ap (reduce (tableFor stage2) row b c) (g .same) ∙ sym (each-step (reduce (tableFor stage2) row b) lo (stateOf m n s) c (g .from))
 
-        pub reducing-next : r .over ≡ false → Reducing stage2 m n row b lo hi (c + 1) s r
-        reducing-next o = record {
+        pub reducing-next : r .over ≡ false → Long r → Reducing stage2 m n row b lo hi (c + 1) s r
+        reducing-next o l = record {
           fine = f .tracks .fine o;
+          long = l;
           same = rw add-one (f .tracks .same o ∙ one);
           from = omega (arith, g .from);
           upto = λ z. absurd (omega arith);

@@ -13,7 +13,7 @@ ghost use Rattle.rules.specs.Steps as steps;
 ghost use Rattle.rules.specs.Stages as stages;
 ghost use Rattle.scaling.specs.Join.{stateOf, Fine, Tracks, Same, One, Two, entriesFor, tableFor, most};
 ghost use Rattle.scaling.specs.Scan.{sizes, Other, betterOf, Comparable, Divisible, Lowest};
-ghost use Rattle.scaling.specs.Rows.{Ready, Begun, Eliminated, Pivot, Reduced, Apart, AllReduced, Settled, RowBegun, RowDone, RowsBegun, RowsDone, Stage3Begun};
+ghost use Rattle.scaling.specs.Rows.{Ready, Repeats, Begun, Eliminated, Pivot, Apart, AllReduced, Settled, RowBegun, RowDone, RowsBegun, RowsDone, Stage3Begun};
 use crate::numbers::cut;
 use crate::numbers::floor;
 use crate::numbers::is_negative;
@@ -44,6 +44,14 @@ pub struct Work {
 pub struct Progress {
     pub work: Work,
     pub a: usize,
+}
+
+// The state after some repetitions of (A), and what the next one is: q times column p to column j. Where none is left, or the state is over, j is a.
+pub struct Repeated {
+    pub work: Work,
+    pub p: usize,
+    pub j: usize,
+    pub q: i64,
 }
 
 // The table that a stage looks at: V in stage 2, else T.
@@ -186,7 +194,54 @@ impl Work {
         self
     }
 
-    // (A) until one column is left: this repetition, and the rest.
+    // Repetitions of (A), sixteen at most.
+    fn repeat(
+        mut self,
+        m: usize,
+        n: usize,
+        stage2: bool,
+        row: usize,
+        lo: usize,
+        a: usize,
+        pivot: usize,
+        column: usize,
+        times: i64,
+    ) -> Repeated
+        requires { ⌜ Fine m n self ⌝ }
+        requires { ⌜ Ready stage2 m n row lo a pivot column times self ⌝ }
+        ensures { λ r. ⌜ Repeats stage2 m n row lo a self r ⌝ }
+    {
+        let base = row * n;
+        let mut p = pivot;
+        let mut j = column;
+        let mut q = times;
+        let mut more: usize = 16;
+        while 0 < more {
+            self = self.add(m, n, p, j, q);
+            let x = table(&self.t, &self.v, stage2);
+            p = next_pivot(x, base, p, j);
+            j = other(x, base, p, lo, a);
+            let over = self.over;
+            if either(over, j == a) {
+                return Repeated {
+                    work: self,
+                    p: p,
+                    j: a,
+                    q: 0,
+                };
+            }
+            q = quotient(x, base, p, j);
+            more -= 1;
+        }
+        Repeated {
+            work: self,
+            p: p,
+            j: j,
+            q: q,
+        }
+    }
+
+    // (A) until one column is left: some repetitions, and the rest.
     fn eliminate(
         mut self,
         m: usize,
@@ -203,18 +258,15 @@ impl Work {
         requires { ⌜ Ready stage2 m n row lo a p j q self ⌝ }
         ensures { λ r. ⌜ Eliminated stage2 m n row lo a self r ⌝ }
     {
-        let work = self.add(m, n, p, j, q);
-        let base = row * n;
-        let x = table(&work.t, &work.v, stage2);
-        let next = next_pivot(x, base, p, j);
-        let k = other(x, base, next, lo, a);
-        let over = work.over;
-        if either(over, k == a) {
-            self = work;
+        let r = self.repeat(m, n, stage2, row, lo, a, p, j, q);
+        let next = r.p;
+        let k = r.j;
+        let x = r.q;
+        if k == a {
+            self = r.work;
             return self;
         }
-        let r = quotient(x, base, next, k);
-        self = work.eliminate(m, n, stage2, row, lo, a, next, k, r);
+        self = r.work.eliminate(m, n, stage2, row, lo, a, next, k, x);
         self
     }
 
@@ -240,8 +292,7 @@ impl Work {
             return self;
         }
         let q = quotient(x, base, p, k);
-        self = self.eliminate(m, n, stage2, row, lo, a, p, k, q);
-        self
+        self.eliminate(m, n, stage2, row, lo, a, p, k, q)
     }
 
     fn bring(mut self, m: usize, n: usize, p: usize, b: usize) -> Work
@@ -252,8 +303,7 @@ impl Work {
         if p == b {
             return self;
         }
-        self = self.swap(m, n, p, b);
-        self
+        self.swap(m, n, p, b)
     }
 
     fn make_positive(mut self, m: usize, n: usize, stage2: bool, row: usize, b: usize) -> Work
@@ -264,25 +314,8 @@ impl Work {
         let x = table(&self.t, &self.v, stage2);
         let y = x[b + row * n];
         if is_negative(y) {
-            self = self.negate(m, n, b);
-            return self;
+            return self.negate(m, n, b);
         }
-        self
-    }
-
-    // Column c comes into range at the pivot in column b.
-    fn reduce(mut self, m: usize, n: usize, stage2: bool, row: usize, b: usize, c: usize) -> Work
-        requires { ⌜ Fine m n self ⌝ }
-        requires { ⌜ Pivot stage2 m n row b self 1 ⌝ }
-        requires { ⌜ (c < n) × (b ≡ c → ⊥) ⌝ }
-        ensures { λ r. ⌜ Reduced stage2 m n row b c self r ⌝ }
-    {
-        let x = table(&self.t, &self.v, stage2);
-        let q = floor_quotient(x, row * n, b, c);
-        if is_none(q) {
-            return self;
-        }
-        self = self.add(m, n, b, c, q);
         self
     }
 
@@ -304,10 +337,14 @@ impl Work {
     {
         let mut c = lo;
         while c < hi {
-            self = self.reduce(m, n, stage2, row, b, c);
-            let over = self.over;
-            if over {
-                return self;
+            let x = table(&self.t, &self.v, stage2);
+            let q = floor_quotient(x, row * n, b, c);
+            if !is_none(q) {
+                self = self.add(m, n, b, c, q);
+                let over = self.over;
+                if over {
+                    return self;
+                }
             }
             c += 1;
         }
@@ -321,10 +358,9 @@ impl Work {
         requires { ⌜ b < n ⌝ }
         ensures { λ r. ⌜ Settled stage2 m n row p b self r ⌝ }
     {
-        self = self.bring(m, n, p, b);
-        self = self.make_positive(m, n, stage2, row, b);
-        self = self.reduce_all(m, n, stage2, row, b, b + 1, n);
-        self
+        let placed = self.bring(m, n, p, b);
+        let positive = placed.make_positive(m, n, stage2, row, b);
+        positive.reduce_all(m, n, stage2, row, b, b + 1, n)
     }
 
     // (A) and (B) in a row whose smallest entry stands in column p.
@@ -342,15 +378,14 @@ impl Work {
         requires { ⌜ RowBegun stage2 m n k lo a p self ⌝ }
         ensures { λ r. ⌜ RowDone stage2 m n k lo a self r ⌝ }
     {
-        self = self.sweep(m, n, stage2, k, lo, a, p);
-        let over = self.over;
+        let swept = self.sweep(m, n, stage2, k, lo, a, p);
+        let over = swept.over;
         if over {
-            return self;
+            return swept;
         }
-        let x = table(&self.t, &self.v, stage2);
+        let x = table(&swept.t, &swept.v, stage2);
         let left = other(x, k * n, a, lo, a);
-        self = self.settle(m, n, stage2, k, left, a - 1);
-        self
+        swept.settle(m, n, stage2, k, left, a - 1)
     }
 
     // All rows from the last to the first, each passed over where its active columns are all zero.

@@ -1,47 +1,132 @@
 -- `Work::reduce_all`: the state is the definition's at the columns done.
-use Prim.Native.Nat.{_-_}
+use mathlib.Core.Path.{_≡_, sym, _∙_}
+use mathlib.Core.Logic.{_≢_, ⊎-elim}
+use mathlib.Core.Bool.{true}
+use Prim.Native.Nat.{_+_, _*_, _-_, _<_}
 use native.Mathlib.Omega.{arith}
+use borrow.Author.Needs.{needs}
+use denote.Ref.{now}
+use lib.IntN.{negℤ}
+use mir.Syntax.{w64}
+use mir.Val.{toZ, ofZ}
+use mir.Facts.{toZ-ofZ}
+use Rattle.whole.specs.Division.{floorZ}
+use Rattle.whole.specs.Lists.{nth}
+use Rattle.theory.proofs.MoreTests.{not-true, not-false}
+use Rattle.scaling.specs.Rows.{Pivot}
+use Rattle.scaling.proofs.State.{Long}
+use Rattle.scaling.proofs.TableRow.{RowIn, row-of-table, row-short}
+use Rattle.scaling.proofs.Reducing.{Reduced, pivot-divides, q-small, reduced-already, reduced-now}
 use Rattle.scaling.proofs.Settling.{Reducing, reducing-start, reducing-pivot, reducing-next, reducing-over, reducing-end}
 use Rattle.scaling.proofs.work.Work.reduce_all.Statement.{statement}
 use Rattle.scaling.proofs.work.Work.reduce_all.Tie as tie
 
 abbrev Inv-loop : tie.InvT-loop
-Inv-loop self₀ m n stage2 row b lo hi c₀ self c = Reducing stage2 m n row b lo hi c self₀ self
+Inv-loop m n stage2 row b lo hi self₀ c₀ self c = Reducing stage2 m n row b lo hi c self₀ self
 
 abbrev μ-loop : tie.MeasureT-loop
-μ-loop self₀ m n stage2 row b lo hi c₀ self c = hi - c
+μ-loop m n stage2 row b lo hi self₀ c₀ self c = hi - c
 
 loop-holds : tie.Need-loop-holds Inv-loop μ-loop
-loop-holds c = reducing-start (c .pre .0) (c .args .lo) (c .args .hi)
+loop-holds c = reducing-start (c .pre .0) (record { t = search needs; v = search needs; w = search needs }) (c .args .lo) (c .args .hi)
 
-reduce-requires : tie.Need-reduce-requires Inv-loop μ-loop
-reduce-requires c κs =
-    let l = c .before .loop in let s = c .before .before in (
-      l .inv .fine,
+table-requires : tie.Need-table-requires Inv-loop μ-loop
+table-requires c κs = search needs
+
+-- the row at column c, and the pivot there
+table-row : (c : tie.After-table Inv-loop μ-loop)
+    → let l = c .before .before .before .before .before in let a = l .before .args in
+    RowIn (a .stage2) (a .m) (a .n) (a .row) (l .loop .self) (now (c .table .result))
+table-row c =
+    let l = c .before .before .before .before .before in let s = l .before in
+    row-of-table (s .args .stage2) (s .pre .0) (s .pre .1 .0 .row-in) (l .loop .inv .long) (c .table .ensures)
+
+pivot : (c : tie.In-loop Inv-loop μ-loop)
+    → let l = c .before in let a = l .before .args in Pivot (a .stage2) (a .m) (a .n) (a .row) (a .b) (l .loop .self) 1
+pivot c = let l = c .before in let s = l .before in reducing-pivot (s .pre .1 .0) (s .pre .1 .1) (l .loop .inv) (c .loop-test .taken)
+
+column-in : (c : tie.In-loop Inv-loop μ-loop) → c .before .loop .c < c .before .before .args .n
+column-in c = omega (arith, c .before .before .pre .1 .1 .upto, c .loop-test .taken)
+
+apart : (c : tie.In-loop Inv-loop μ-loop) → c .before .before .args .b ≢ c .before .loop .c
+apart c = let l = c .before in l .before .pre .1 .1 .apart (l .loop .c) (l .loop .inv .from) (c .loop-test .taken)
+
+-- q, as it is passed on
+q-is : (c : tie.After-floor-quotient Inv-loop μ-loop)
+    → let l = c .before .before .before .before .before .before in let a = l .before .args in let xs = now (c .before .table .result) in
+    toZ w64 (ofZ w64 (c .floor-quotient .result)) ≡ negℤ (floorZ (nth xs (l .loop .c + a .row * a .n)) (nth xs (a .b + a .row * a .n)))
+q-is c = toZ-ofZ {w = w64} (record { sfits = c .floor-quotient .ok }) ∙ c .floor-quotient .ensures
+
+mul-floor-quotient : tie.Need-mul-floor-quotient Inv-loop μ-loop
+mul-floor-quotient c = let s = c .before .before .before .before .before .before in omega (arith, row-short (s .args .stage2) (s .pre .0) (s .pre .1 .0 .row-in))
+
+floor-quotient-requires : tie.Need-floor-quotient-requires Inv-loop μ-loop
+floor-quotient-requires c κs = let i = c .before .before .before .before in pivot-divides (table-row c) (pivot i) (i .before .loop .c) (column-in i)
+
+is-none-requires : tie.Need-is-none-requires Inv-loop μ-loop
+is-none-requires c κs = search needs
+
+add-requires : tie.Need-add-requires Inv-loop μ-loop
+add-requires c κs =
+    let q = c .before .before in let i = q .before .before .before .before .before in let l = i .before in let s = l .before in (
+      l .loop .inv .fine,
       (
-        reducing-pivot (s .pre .1 .0) (s .pre .1 .1) (l .inv) (c .loop-test .taken),
-        (omega (arith, s .pre .1 .1 .upto, c .loop-test .taken), s .pre .1 .1 .apart (l .c) (l .inv .from) (c .loop-test .taken)),
+        record {
+          i-in = pivot i .b-in;
+          j-in = column-in i;
+          apart = apart i;
+          room = omega (arith, pivot i .room);
+        },
+        q-small (table-row (q .before)) (l .loop .inv .fine) (pivot i) (l .loop .c) (column-in i) _ (q-is q),
       ),
     )
 
+-- what the column becomes, where nothing is to be added and where something is
+already : (c : tie.After-is-none Inv-loop μ-loop) → c .is-none .result ≡ true
+    → let l = c .before .before .before .before .before .before .before in let a = l .before .args in
+    Reduced (a .stage2) (a .m) (a .n) (a .row) (a .b) (l .loop .c) (l .loop .self) (l .loop .self)
+already c e =
+    let q = c .before in let i = q .before .before .before .before .before in let l = i .before .loop in
+    reduced-already (table-row (q .before)) (l .inv .fine) (pivot i) (l .c) (column-in i) _ (q-is q) (sym (c .is-none .ensures) ∙ e)
+
+now-added : (c : tie.After-add Inv-loop μ-loop)
+    → let l = c .before .before .before .before .before .before .before .before .before in let a = l .before .args in
+    Reduced (a .stage2) (a .m) (a .n) (a .row) (a .b) (l .loop .c) (l .loop .self) (c .add .result)
+now-added c =
+    let q = c .before .before .before in let i = q .before .before .before .before .before in let l = i .before .loop in
+    reduced-now (table-row (q .before)) (l .inv .fine) (pivot i) (l .c) (column-in i) _ (q-is q)
+    (sym (c .before .before .is-none .ensures) ∙ not-true _ (c .before .if1 .taken)) (apart i) (c .add .ensures)
+
+long : (c : tie.After-add Inv-loop μ-loop) → Long (c .add .result)
+long c = record { t = search needs; v = search needs; w = search needs }
+
 returns : tie.Need-returns Inv-loop μ-loop
 returns c =
-    let i = c .before .before in let s = i .before .before in
-    reducing-over (s .pre .1 .0) (s .pre .1 .1) (i .before .loop .inv) (i .loop-test .taken) (c .before .reduce .ensures) (c .if1 .taken)
+    let i = c .before .before .before .before .before .before .before .before .before in let l = i .before in let s = l .before in
+    reducing-over (s .pre .1 .0) (s .pre .1 .1) (l .loop .inv) (i .loop-test .taken) (now-added (c .before)) (c .if2 .taken)
 
 add-c : tie.Need-add-c Inv-loop μ-loop
-add-c c = let i = c .before .before in omega (arith, i .loop-test .taken, i .before .before .fits .hi)
+add-c c = let i = c .before .before .before .before .before .before .before in omega (arith, i .loop-test .taken, i .before .before .fits .hi)
 
 loop-less : tie.Need-loop-less Inv-loop μ-loop
-loop-less c = omega (arith, c .before .before .loop-test .taken)
+loop-less c = omega (arith, c .before .before .before .before .before .before .before .loop-test .taken)
 
 loop-again : tie.Need-loop-again Inv-loop μ-loop
 loop-again c =
-    let i = c .before .before in let s = i .before .before in
-    reducing-next (s .pre .1 .0) (s .pre .1 .1) (i .before .loop .inv) (i .loop-test .taken) (c .before .reduce .ensures) (c .if1 .left)
+    let i = c .before .before .before .before .before .before .before in let l = i .before in let s = l .before in
+    ⊎-elim
+    (λ w. rw (w .3) (reducing-next (s .pre .1 .0) (s .pre .1 .1) (l .loop .inv) (i .loop-test .taken)
+    (now-added (record { before = record { before = c .before; if1 = w .0 }; add = w .1 })) (w .2 .left)
+    (long (record { before = record { before = c .before; if1 = w .0 }; add = w .1 }))))
+    (λ w. rw (w .1) (reducing-next (s .pre .1 .0) (s .pre .1 .1) (l .loop .inv) (i .loop-test .taken)
+    (already (c .before) (not-false _ (w .0 .left))) (l .loop .inv .fine .clear) (l .loop .inv .long)))
+    (c .if1 .came)
 
 returns-2 : tie.Need-returns-2 Inv-loop μ-loop
 returns-2 c = let s = c .before .before in reducing-end (s .pre .1 .0) (s .pre .1 .1) (c .before .loop .inv) (c .loop-test .left)
 
 pub reduce-all-spec : {M : Type 1} → statement M
-reduce-all-spec = tie.close (tie.spec Inv-loop μ-loop loop-holds reduce-requires returns add-c loop-less loop-again returns-2)
+reduce-all-spec =
+    tie.close
+    (tie.spec Inv-loop μ-loop loop-holds table-requires mul-floor-quotient floor-quotient-requires is-none-requires add-requires returns add-c
+    loop-less loop-again returns-2)
