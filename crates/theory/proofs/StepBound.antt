@@ -1,9 +1,9 @@
--- How many steps the run takes at most, where no value passes M: each repetition of (A) halves an entry, which has at most 31 bits.
+-- How many steps the run takes at most: each repetition of (A) halves an entry, which has at most 31 bits as long as no value has passed M.
 use mathlib.Core.Path.{_≡_, refl, ap}
-use mathlib.Core.Logic.{_≢_}
 use mathlib.Core.Bool.{Bool, true, false}
 use Prim.Native.Nat.{ℕ, zero, suc, _+_, _*_, _-_, _≤_, _<_}
 use native.Mathlib.Omega.{arith}
+use native.Mathlib.Decide.{ℕ-discrete}
 use native.Mathlib.Nat.{suc-mul}
 use lib.Dec.{eqb}
 use lib.IntN.{ℤ, pos, negℤ}
@@ -17,12 +17,10 @@ use Rattle.rules.specs.Stages.{size, Next, done, adds, next, repeatA, eliminate
 use Rattle.theory.proofs.ExtraTests.{false-of}
 use Rattle.theory.proofs.Search.{total-less, SmallestIs, all-zero, is-smallest, smallest-is}
 use Rattle.theory.proofs.StepLines.{swap-steps, negate-steps, add-steps}
-use Rattle.theory.proofs.Moves.{add}
-use Rattle.theory.proofs.Sequence.{begin, then, follow}
-use Rattle.theory.proofs.Eliminate.{size-in, size-off, Adds, once}
+use Rattle.theory.proofs.Sequence.{begin, follow}
+use Rattle.theory.proofs.Eliminate.{size-off, once}
 use Rattle.theory.proofs.Repetition.{adds-is, size-halves}
-use Rattle.theory.proofs.Parts.{repeatA-keeps}
-use Rattle.theory.proofs.Flag.{Over, swap-over, negate-over, add-over, settle-over, rows-over}
+use Rattle.theory.proofs.Flag.{rows-over}
 use Rattle.theory.proofs.Range.{Fine, steps-fine, fine-get}
 use Rattle.theory.proofs.Stage.{RowsDone, Advanced, row-is}
 use Rattle.theory.proofs.Bits.{bits, bits-le, bits-half}
@@ -44,12 +42,8 @@ pub rowBits-le : (tb : Table) (lo a k : ℕ) (u : State) → rowBits tb lo a k u
 unfolding rowBits
 rowBits-le tb lo a k u = total-le (λ c. bits 31 (size tb u k c)) lo a (λ c. bits-le 31 (size tb u k c))
 
--- ---- (A)
--- a flag that is not set after a part was not set before it
-not-over : (u w : State) → (Over u → Over w) → w .over ≡ false → u .over ≡ false
-not-over u w h e = false-of (u .over) (w .over) h e
-
-module _ (tb : Table) (n lo a k : ℕ) where
+-- ---- (A): also in a row where it is refused, since in that row (A) only makes entries smaller
+module _ (tb : Table) (lo a k : ℕ) where
   -- a step of (A) takes at least one bit away
   pub rowBits-fall : (u : State) (p j : ℕ) (q : ℤ) → next tb lo a k u ≡ adds p j q → size tb u k j ≤ M
       → rowBits tb lo a k (addStep p j q u) < rowBits tb lo a k u
@@ -59,37 +53,28 @@ module _ (tb : Table) (n lo a k : ℕ) where
       (bits-half 30 (size tb (addStep p j q u) k j) (size tb u k j) (size-halves tb lo a k u p j q e) (omega arith))
       (λ c i d. ap (bits 31) (size-off tb k u p j q c d))
 
-  step-fine : (u : State) (p j : ℕ) (q : ℤ) → Adds tb lo a k u p j q → Fine n u → Fine n (addStep p j q u)
-  step-fine u p j q h f =
-      steps-fine (then begin (add p j q (record { low = omega arith; high = there p (h .pivot .filled) }) (there j (h .filled)) (h .apart))) f
+  step-small : (u : State) (p j : ℕ) (q : ℤ) → next tb lo a k u ≡ adds p j q → ((c : ℕ) → size tb u k c ≤ M)
+      → (c : ℕ) → size tb (addStep p j q u) k c ≤ M
+  step-small u p j q e h c = go (ℕ-discrete j c)
     where
-      there : (c : ℕ) → size tb u k c ≢ 0 → c < n
-      there c d = omega (arith, size-in tb u k c d, f .lines)
+      go : Dec (j ≡ c) → size tb (addStep p j q u) k c ≤ M
+      go (yes d) = rw (← d) (omega (arith, size-halves tb lo a k u p j q e, h j))
+      go (no d) = omega (arith, size-off tb k u p j q c d, h c)
 
-  repeatA-steps : (times : ℕ) (u : State) → Fine n u → repeatA times tb lo a k u .over ≡ false
-      → repeatA times tb lo a k u .steps ≤ u .steps + rowBits tb lo a k u
-  unfolding repeatA size
-  repeatA-steps zero u f e = omega arith
-  repeatA-steps (suc times) u f e = go (next tb lo a k u) refl e (repeatA-steps times)
+  repeatA-steps : (times : ℕ) (u : State) → ((c : ℕ) → size tb u k c ≤ M) → repeatA times tb lo a k u .steps ≤ u .steps + rowBits tb lo a k u
+  unfolding repeatA
+  repeatA-steps zero u f = omega arith
+  repeatA-steps (suc times) u f = go (next tb lo a k u) refl (repeatA-steps times)
     where
-      go : (x : Next) → next tb lo a k u ≡ x → once times tb lo a k u x .over ≡ false
-          → ((w : State) → Fine n w → repeatA times tb lo a k w .over ≡ false → repeatA times tb lo a k w .steps ≤ w .steps + rowBits tb lo a k w)
+      go : (x : Next) → next tb lo a k u ≡ x
+          → ((w : State) → ((c : ℕ) → size tb w k c ≤ M) → repeatA times tb lo a k w .steps ≤ w .steps + rowBits tb lo a k w)
           → once times tb lo a k u x .steps ≤ u .steps + rowBits tb lo a k u
-      go done h o r = omega arith
-      go (adds p j q) h o r = omega (arith, r w (step-fine u p j q (adds-is tb lo a k u p j q h) f) o, add-steps p j q u, rowBits-fall u p j q h small)
-        where
-          w : State
-          w = addStep p j q u
+      go done h r = omega arith
+      go (adds p j q) h r = omega (arith, r (addStep p j q u) (step-small u p j q h f), add-steps p j q u, rowBits-fall u p j q h (f j))
 
-          clear-after : w .over ≡ false
-          clear-after = not-over w (repeatA times tb lo a k w) (repeatA-keeps Over swap-over negate-over add-over times tb lo a k w) o
-
-          small : size tb u k j ≤ M
-          small = fine-get n u f (not-over u w (add-over p j q u) clear-after) tb k j
-
-  pub eliminate-steps : (u : State) → Fine n u → eliminate tb lo a k u .over ≡ false → eliminate tb lo a k u .steps ≤ u .steps + 31 * (a - lo)
+  pub eliminate-steps : (u : State) → ((c : ℕ) → size tb u k c ≤ M) → eliminate tb lo a k u .steps ≤ u .steps + 31 * (a - lo)
   unfolding eliminate
-  eliminate-steps u f e = omega (arith, repeatA-steps (total (size tb u k) lo a) u f e, rowBits-le tb lo a k u)
+  eliminate-steps u f = omega (arith, repeatA-steps (total (size tb u k) lo a) u f, rowBits-le tb lo a k u)
 
 -- ---- (B)
 reduce-steps : (tb : Table) (k b c : ℕ) (u : State) → reduce tb k b c u .steps ≤ suc (u .steps)
@@ -143,24 +128,20 @@ settle-steps tb n k p b u = omega (
 
 -- ---- rows
 module _ (tb : Table) (n lo : ℕ) where
-  pub row-steps : (k : ℕ) (g : Progress) → g .a ≤ n → Fine n (g .state) → row tb n lo k g .state .over ≡ false
+  pub row-steps : (k : ℕ) (g : Progress) → g .a ≤ n → Fine n (g .state) → g .state .over ≡ false
       → row tb n lo k g .state .steps ≤ g .state .steps + (31 * (n - lo) + 2)
-  unfolding row
-  row-steps k g fit f o = go (smallest-is (size tb u k) lo (g .a)) o
+  unfolding row size
+  row-steps k g fit f o = go (smallest-is (size tb u k) lo (g .a))
     where
       u : State
       u = eliminate tb lo (g .a) k (g .state)
 
-      go : {x : Found} → SmallestIs (size tb u k) lo (g .a) x → settled tb n (g .a) k u x .state .over ≡ false
-          → settled tb n (g .a) k u x .state .steps ≤ g .state .steps + (31 * (n - lo) + 2)
-      go (all-zero z) o = omega (arith, eliminate-steps tb n lo (g .a) k (g .state) f o)
-      go (is-smallest p s) o = omega (
-        arith,
-        s .within .low,
-        s .within .high,
-        settle-steps tb n k p (g .a - 1) u,
-        eliminate-steps tb n lo (g .a) k (g .state) f (not-over u (settle tb n k p (g .a - 1) u) (settle-over tb n k p (g .a - 1) u) o),
-      )
+      swept : u .steps ≤ g .state .steps + 31 * (g .a - lo)
+      swept = eliminate-steps tb lo (g .a) k (g .state) (λ c. fine-get n (g .state) f o tb k c)
+
+      go : {x : Found} → SmallestIs (size tb u k) lo (g .a) x → settled tb n (g .a) k u x .state .steps ≤ g .state .steps + (31 * (n - lo) + 2)
+      go (all-zero z) = omega (arith, swept)
+      go (is-smallest p s) = omega (arith, s .within .low, s .within .high, settle-steps tb n k p (g .a - 1) u, swept)
 
   pub rows-steps : (m k : ℕ) → k ≤ m → (g : Progress) → RowsDone tb n lo m k (g .state) (g .a) → Fine n (g .state) → rows tb n lo k g .state .over ≡ false
       → rows tb n lo k g .state .steps ≤ g .state .steps + k * (31 * (n - lo) + 2)
@@ -170,7 +151,7 @@ module _ (tb : Table) (n lo : ℕ) where
       let w : Progress = row tb n lo k g in
       let d : Advanced tb n lo m k g w = row-is tb n lo m k h g v in
       let f₂ : Fine n (w .state) = steps-fine (follow (omega arith) begin (d .moves)) f in
-      let o₂ : w .state .over ≡ false = not-over (w .state) (rows tb n lo k w .state) (rows-over tb n lo k w) o in
+      let o₂ : g .state .over ≡ false = false-of (g .state .over) (rows tb n lo (suc k) g .state .over) (rows-over tb n lo (suc k) g) o in
       omega (arith, suc-mul k (31 * (n - lo) + 2), row-steps k g (v .high) f o₂, rows-steps m k (omega arith) w (d .stands) f₂ o)
 
 -- ---- stage 3
