@@ -20,9 +20,9 @@ use Rattle.theory.proofs.Repetition.{adds-is, quotient-small, pivot-after}
 use Rattle.theory.proofs.Flag.{eliminate-over}
 use Rattle.scaling.specs.declared.work.Work.{Work}
 use Rattle.scaling.specs.declared.work.Repeated.{Repeated}
-use Rattle.scaling.specs.Join.{stateOf, Fine, Two, Tracks, tableFor}
+use Rattle.scaling.specs.Join.{stateOf, Fine, Two, Tracks, most, tableFor, heightFor}
 use Rattle.scaling.specs.Scan.{Other, Divisible}
-use Rattle.scaling.specs.Rows.{sizesIn, left, Ready, Begun, Eliminated, Further, Repeats}
+use Rattle.scaling.specs.Rows.{sizesIn, left, Ready, Eliminated, Further, Repeats}
 use Rattle.scaling.proofs.TableRow.{RowIn, size-in, size-small}
 use Rattle.scaling.proofs.State.{state-steps}
 use Rattle.scaling.proofs.Tracking.{add-steps, over-tracks, same-tracks}
@@ -153,6 +153,13 @@ module _ {stage2 : Bool} {m n row lo a p j : ℕ} {q : ℤ} {more : ℕ} {s w : 
   }
 
 -- ---- the first repetition
+-- a row whose smallest entry stands in column p
+pub record Begun (stage2 : Bool) (m n row lo a p : ℕ) (s : Work) : Type 0 where
+  pub row-in : row < heightFor stage2 m n
+  pub a-in : a ≤ n
+  pub smallest : smallest (sizesIn stage2 m n s row) lo a ≡ found p
+  pub room : s .steps + left stage2 m n s row lo a ≤ most
+
 module _ {stage2 : Bool} {m n row lo a p : ℕ} {s : Work} (f : Fine m n s) (b : Begun stage2 m n row lo a p s)
     {xs : List ℤ} (r : RowIn stage2 m n row s xs) {k : ℕ} (ko : Other xs (row * n) p lo a k) where
   pub begun-divides : k ≢ a → Divisible xs (row * n) p k

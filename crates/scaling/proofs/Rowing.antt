@@ -20,10 +20,12 @@ use Rattle.theory.proofs.Flag.{settle-over}
 use Rattle.scaling.specs.declared.work.Work.{Work}
 use Rattle.scaling.specs.Join.{stateOf, Fine, tableFor}
 use Rattle.scaling.specs.Scan.{sizes, Other}
-use Rattle.scaling.specs.Rows.{sizesIn, left, progress, Begun, Eliminated, Pivot, Settled, RowBegun, RowDone}
+use Rattle.scaling.specs.Rows.{sizesIn, left, progress, Eliminated, Pivot, RowBegun, RowDone}
 use Rattle.scaling.proofs.Hits.{first-there, first-nowhere, smallest-there}
 use Rattle.scaling.proofs.TableRow.{RowIn, size-in, size-small}
 use Rattle.scaling.proofs.Tracking.{over-tracks}
+use Rattle.scaling.proofs.Repeating.{Begun}
+use Rattle.scaling.proofs.Settling.{Settled}
 
 total-le : (f : ℕ → ℕ) (most lo a : ℕ) → ((c : ℕ) → In lo a c → f c ≤ most) → total f lo a ≤ most * a
 unfolding total

@@ -1,12 +1,13 @@
 -- (B) by the code: columns come into range one after the other, and the whole of (B).
-use mathlib.Core.Path.{_≡_, refl, sym, _∙_, ap}
+use mathlib.Core.Path.{_≡_, refl, sym, _∙_, ap, subst}
 use mathlib.Core.Bool.{Bool, true, false}
-use Prim.Native.Nat.{ℕ, zero, suc, _+_, _≤_, _<_}
+use mathlib.Core.List.{List}
+use Prim.Native.Nat.{ℕ, zero, suc, _+_, _*_, _≤_, _<_}
 use native.Mathlib.Omega.{arith}
 use native.Mathlib.Numerals.{add-one}
-use native.Mathlib.Decide.{ℕ-discrete}
+use native.Mathlib.Decide.{ℕ-discrete, decLt}
 use lib.Dec.{eqb}
-use lib.IntN.{pos, natAbs}
+use lib.IntN.{ℤ, pos, natAbs}
 use lib.Signed.{ltZ}
 use Rattle.whole.proofs.Order.{abs-neg}
 use Rattle.whole.proofs.Exchange.{tr-second}
@@ -19,11 +20,13 @@ use Rattle.theory.proofs.StepLines.{count}
 use Rattle.theory.proofs.Entries.{swap-get, negate-at}
 use Rattle.theory.proofs.Flag.{reduce-over}
 use Rattle.scaling.specs.declared.work.Work.{Work}
-use Rattle.scaling.specs.Join.{stateOf, Fine, Same, tableFor}
-use Rattle.scaling.specs.Rows.{sizesIn, Pivot, Apart, AllReduced, Settled}
+use Rattle.scaling.specs.Join.{stateOf, Fine, Same, Tracks, tableFor}
+use Rattle.scaling.specs.Scan.{Divisors, Unreduced}
+use Rattle.scaling.specs.Rows.{sizesIn, Pivot, Apart, AllReduced}
 use Rattle.scaling.proofs.State.{state-count, state-steps, Long}
+use Rattle.scaling.proofs.TableRow.{RowIn, size-in}
 use Rattle.scaling.proofs.Tracking.{over-tracks, same-tracks}
-use Rattle.scaling.proofs.Reducing.{bring-not, bring-swaps, Reduced}
+use Rattle.scaling.proofs.Reducing.{bring-not, bring-swaps, Reduced, reduced-already}
 
 -- ---- columns lo to c are done
 pub record Reducing (stage2 : Bool) (m n row b lo hi c : ℕ) (s u : Work) : Type 0 where
@@ -104,7 +107,51 @@ module _ {stage2 : Bool} {m n row b : ℕ} {s : Work} where
           counted = λ z. absurd (true-not-false o z);
         }
 
+-- ---- columns that are in range already
+each-skip : {S : Type 0} (f : ℕ → S → S) (lo c : ℕ) (s : S) → ((i : ℕ) → lo ≤ i → i < c → f i s ≡ s) → lo ≤ c
+    → (hi : ℕ) → each f lo hi s ≡ each f c hi s
+each-skip f lo c s still l zero = each-start f lo s 0 (omega arith) ∙ sym (each-start f c s 0 (omega arith))
+each-skip f lo c s still l (suc h) = go (decLt h lo) (decLt h c) (each-skip f lo c s still l h)
+  where
+    go : Dec (h < lo) → Dec (h < c) → each f lo h s ≡ each f c h s → each f lo (suc h) s ≡ each f c (suc h) s
+    go (yes x) y r = each-start f lo s (suc h) x ∙ sym (each-start f c s (suc h) (omega arith))
+    go (no x) (yes y) r = each-step f lo s h (omega arith) ∙ ap (f h) (r ∙ each-start f c s h (omega arith)) ∙ still h (omega arith) y
+        ∙ sym (each-start f c s (suc h) y)
+    go (no x) (no y) r = each-step f lo s h (omega arith) ∙ ap (f h) r ∙ sym (each-step f c s h (omega arith))
+
+module _ {stage2 : Bool} {m n row b : ℕ} {s : Work} {xs : List ℤ} (r : RowIn stage2 m n row s xs) (f : Fine m n s) (p : Pivot stage2 m n row b s n)
+    {hi : ℕ} (fit : hi ≤ n) where
+  pub pivot-divisors : Divisors xs (row * n) b hi
+  pivot-divisors = record {
+    b-in = omega (arith, r .whole, p .b-in);
+    upto = omega (arith, r .whole);
+    filled = omega (arith, p .filled, size-in r b (p .b-in));
+  }
+
+  module _ {lo c : ℕ} (g : Unreduced xs (row * n) b lo hi c) (l : lo ≤ c) where
+    once : Pivot stage2 m n row b s 1
+    once = record { row-in = p .row-in; b-in = p .b-in; filled = p .filled; room = omega (arith, p .room, p .b-in) }
+
+    still : (i : ℕ) → lo ≤ i → i < c → reduce (tableFor stage2) row b i (stateOf m n s) ≡ stateOf m n s
+    still i x y = sym (reduced-already r f once i (omega (arith, g .upto)) _ refl (g .lower i x y) .tracks .same (f .clear))
+
+    skipped : each (reduce (tableFor stage2) row b) lo hi (stateOf m n s) ≡ each (reduce (tableFor stage2) row b) c hi (stateOf m n s)
+    skipped = each-skip (reduce (tableFor stage2) row b) lo c (stateOf m n s) still l hi
+
+    pub reduced-rest : {w : Work} → AllReduced stage2 m n row b c hi s w → AllReduced stage2 m n row b lo hi s w
+    reduced-rest {w} a = record { tracks = subst (λ (u : State). Tracks m n w u) (sym skipped) (a .tracks); counted = a .counted }
+
+    pub reduced-none : hi ≤ c → AllReduced stage2 m n row b lo hi s s
+    reduced-none h = record {
+      tracks = same-tracks m n s _ f (sym (skipped ∙ each-start (reduce (tableFor stage2) row b) c (stateOf m n s) hi h));
+      counted = λ _. omega arith;
+    }
+
 -- ---- the whole of (B)
+pub record Settled (stage2 : Bool) (m n row p b : ℕ) (s r : Work) : Type 0 where
+  pub tracks : Tracks m n r (settle (tableFor stage2) n row p b (stateOf m n s))
+  pub counted : r .over ≡ false → r .steps ≤ s .steps + n + 2
+
 bring-size : (tb : Table) (p b row : ℕ) (u : State) → p < count u → b < count u → size tb (bring p b u) row b ≡ size tb u row p
 unfolding size
 bring-size tb p b row u hp hb = go (ℕ-discrete p b)

@@ -51,6 +51,13 @@ module _ (stage2 : Bool) {m n row : ℕ} {s : Work} (f : Fine m n s) (h : row < 
   unfolding size
   size-small c k = rw (state-get m n s stage2 row c h k) (entries-small stage2 .at (c + row * n))
 
+-- a row of V alone
+pub row-of-v : {m n row : ℕ} {s : Work} → Fine m n s → row < n → length (s .v) ≡ 576 → RowIn true m n row s (s .v)
+row-of-v {m} {n} {row} {s} f h e = record {
+  entry = λ c k. state-get m n s true row c h k;
+  whole = omega (arith, rows-fit n row n (f .cols) h, f .cols);
+}
+
 pub size-in : {stage2 : Bool} {m n row : ℕ} {s : Work} {xs : List ℤ} → RowIn stage2 m n row s xs → (c : ℕ) → c < n
     → sizesIn stage2 m n s row c ≡ sizes xs (row * n) c
 unfolding size

@@ -6,7 +6,7 @@ use Prim.Native.Nat.{ℕ, suc, _+_, _-_, _*_, _<_, _≤_}
 use lib.IntN.{ℤ}
 use Rattle.rules.specs.Search.{found, smallest, total, each}
 use Rattle.rules.specs.Steps.{State, onV}
-use Rattle.rules.specs.Stages.{size, Next, adds, next, eliminate, reduce, settle, row, rows, stage3, Progress}
+use Rattle.rules.specs.Stages.{size, Next, adds, next, eliminate, reduce, row, rows, stage3, Progress}
 use Rattle.scaling.specs.declared.work.Work.{Work}
 use Rattle.scaling.specs.declared.work.Repeated.{Repeated}
 use Rattle.scaling.specs.Join.{stateOf, Fine, Tracks, most, tableFor, heightFor}
@@ -23,13 +23,6 @@ pub record Ready (stage2 : Bool) (m n row lo a p j : ℕ) (q : ℤ) (s : Work) :
   pub row-in : row < heightFor stage2 m n
   pub a-in : a ≤ n
   pub adds : next (tableFor stage2) lo a row (stateOf m n s) ≡ adds p j q
-  pub room : s .steps + left stage2 m n s row lo a ≤ most
-
--- a row whose smallest entry stands in column p
-pub record Begun (stage2 : Bool) (m n row lo a p : ℕ) (s : Work) : Type 0 where
-  pub row-in : row < heightFor stage2 m n
-  pub a-in : a ≤ n
-  pub smallest : smallest (sizesIn stage2 m n s row) lo a ≡ found p
   pub room : s .steps + left stage2 m n s row lo a ≤ most
 
 pub record Eliminated (stage2 : Bool) (m n row lo a : ℕ) (s r : Work) : Type 0 where
@@ -62,10 +55,6 @@ pub record Apart (n b lo hi : ℕ) : Type 0 where
 pub record AllReduced (stage2 : Bool) (m n row b lo hi : ℕ) (s r : Work) : Type 0 where
   pub tracks : Tracks m n r (each (reduce (tableFor stage2) row b) lo hi (stateOf m n s))
   pub counted : r .over ≡ false → r .steps ≤ s .steps + n
-
-pub record Settled (stage2 : Bool) (m n row p b : ℕ) (s r : Work) : Type 0 where
-  pub tracks : Tracks m n r (settle (tableFor stage2) n row p b (stateOf m n s))
-  pub counted : r .over ≡ false → r .steps ≤ s .steps + n + 2
 
 -- no row takes more steps than this: 24 columns of at most M, and (B)
 abbrev pub perRow : ℕ

@@ -1,12 +1,14 @@
 -- The searches in a row of a flat list that begins at base, and in a column.
 use mathlib.Core.Path.{_≡_}
-use mathlib.Core.Bool.{cond, not}
+use mathlib.Core.Bool.{Bool, true, false, cond, not}
 use mathlib.Core.List.{List}
 use Prim.Native.Nat.{ℕ, _+_, _*_, _<_, _≤_}
 use lib.Dec.{eqb, ltb}
 use lib.ListN.{length}
-use lib.IntN.{ℤ, natAbs}
+use lib.IntN.{ℤ, negℤ, natAbs}
+use Rattle.whole.specs.Division.{floorZ}
 use Rattle.whole.specs.Lists.{nth}
+use Rattle.rules.specs.Limits.{isZero}
 use Rattle.rules.specs.Search.{none, found, first, last}
 use Rattle.rules.specs.Stages.{isOther}
 
@@ -35,6 +37,23 @@ pub record Divisible (xs : List ℤ) (base p j : ℕ) : Type 0 where
   pub p-in : p + base < length xs
   pub j-in : j + base < length xs
   pub filled : 0 < sizes xs base p
+
+-- the columns up to hi, and the pivot's column b
+pub record Divisors (xs : List ℤ) (base b hi : ℕ) : Type 0 where
+  pub b-in : b + base < length xs
+  pub upto : hi + base ≤ length xs
+  pub filled : 0 < sizes xs base b
+
+-- whether nothing is to be added to column c for it to be in range at the pivot in column b
+abbrev pub inRange : List ℤ → (base b c : ℕ) → Bool
+inRange xs base b c = isZero (negℤ (floorZ (nth xs (c + base)) (nth xs (b + base))))
+
+-- r is the lowest column that is not in range; hi where all are
+pub record Unreduced (xs : List ℤ) (base b lo hi r : ℕ) : Type 0 where
+  pub low : lo ≤ hi → lo ≤ r
+  pub upto : r ≤ hi
+  pub lower : (c : ℕ) → lo ≤ c → c < r → inRange xs base b c ≡ true
+  pub hit : r < hi → inRange xs base b r ≡ false
 
 -- r is the row of the lowest entry of column c that is not 0; n where there is none
 pub record Lowest (xs : List ℤ) (n c r : ℕ) : Type 0 where

@@ -3,8 +3,8 @@ ghost use mathlib.Core.Path.{_≡_};
 ghost use mathlib.Core.Bool.{cond, true};
 ghost use Prim.Native.Nat.{_<_, _≤_, _+_, _*_};
 ghost use lib.ListN.{length};
-ghost use lib.IntN.{natAbs, negℤ};
-ghost use lib.Signed.{quotZ};
+ghost use lib.IntN.{natAbs, negℤ, pos};
+ghost use lib.Signed.{quotZ, ltZ};
 ghost use Rattle.whole.specs.Division.{floorZ};
 ghost use Rattle.whole.specs.Lists.{nth};
 ghost use Rattle.rules.specs.Limits.{isZero};
@@ -12,8 +12,8 @@ ghost use Rattle.rules.specs.Steps.{swapStep, negateStep, addStep};
 ghost use Rattle.rules.specs.Steps as steps;
 ghost use Rattle.rules.specs.Stages as stages;
 ghost use Rattle.scaling.specs.Join.{stateOf, Fine, Tracks, Same, One, Two, entriesFor, tableFor, most};
-ghost use Rattle.scaling.specs.Scan.{sizes, Other, betterOf, Comparable, Divisible, Lowest};
-ghost use Rattle.scaling.specs.Rows.{Ready, Repeats, Begun, Eliminated, Pivot, Apart, AllReduced, Settled, RowBegun, RowDone, RowsBegun, RowsDone, Stage3Begun};
+ghost use Rattle.scaling.specs.Scan.{sizes, Other, betterOf, Comparable, Divisible, Divisors, Unreduced, Lowest};
+ghost use Rattle.scaling.specs.Rows.{Ready, Repeats, Eliminated, Pivot, Apart, AllReduced, RowBegun, RowDone, RowsBegun, RowsDone, Stage3Begun};
 use crate::numbers::cut;
 use crate::numbers::floor;
 use crate::numbers::is_negative;
@@ -120,6 +120,30 @@ pub fn floor_quotient(x: &[i32], base: usize, b: usize, c: usize) -> i64
     let y = x[c + base];
     let z = x[b + base];
     minus(floor(y, z))
+}
+
+// Whether the entry of column b is negative.
+pub fn negative(x: &[i32], base: usize, b: usize) -> bool
+    requires { ⌜ b + base < length (now x) ⌝ }
+    ensures { λ r. ⌜ r ≡ ltZ (nth (now (x .entry)) (b + base)) (pos 0) ⌝ }
+{
+    is_negative(x[b + base])
+}
+
+// The lowest column from lo to hi that is not in range at the pivot in column b; hi where there is none.
+pub fn unreduced(x: &[i32], base: usize, b: usize, lo: usize, hi: usize) -> usize
+    requires { ⌜ Divisors (now x) base b hi ⌝ }
+    ensures { λ r. ⌜ Unreduced (now (x .entry)) base b lo hi r ⌝ }
+{
+    let mut c = lo;
+    while c < hi {
+        let q = floor_quotient(x, base, b, c);
+        if !is_none(q) {
+            return c;
+        }
+        c += 1;
+    }
+    hi
 }
 
 // The row of the lowest entry of column c of V that is not 0; n where there is none.
@@ -270,55 +294,6 @@ impl Work {
         self
     }
 
-    // (A) in a row whose smallest entry stands in column p.
-    fn sweep(
-        mut self,
-        m: usize,
-        n: usize,
-        stage2: bool,
-        row: usize,
-        lo: usize,
-        a: usize,
-        p: usize,
-    ) -> Work
-        requires { ⌜ Fine m n self ⌝ }
-        requires { ⌜ Begun stage2 m n row lo a p self ⌝ }
-        ensures { λ r. ⌜ Eliminated stage2 m n row lo a self r ⌝ }
-    {
-        let base = row * n;
-        let x = table(&self.t, &self.v, stage2);
-        let k = other(x, base, p, lo, a);
-        if k == a {
-            return self;
-        }
-        let q = quotient(x, base, p, k);
-        self.eliminate(m, n, stage2, row, lo, a, p, k, q)
-    }
-
-    fn bring(mut self, m: usize, n: usize, p: usize, b: usize) -> Work
-        requires { ⌜ Fine m n self ⌝ }
-        requires { ⌜ (p < n) × (b < n) × (self .steps < most) ⌝ }
-        ensures { λ r. ⌜ Same m n r (stages.bring p b (stateOf m n self)) ⌝ }
-    {
-        if p == b {
-            return self;
-        }
-        self.swap(m, n, p, b)
-    }
-
-    fn make_positive(mut self, m: usize, n: usize, stage2: bool, row: usize, b: usize) -> Work
-        requires { ⌜ Fine m n self ⌝ }
-        requires { ⌜ Pivot stage2 m n row b self 1 ⌝ }
-        ensures { λ r. ⌜ Same m n r (stages.makePositive (tableFor stage2) row b (stateOf m n self)) ⌝ }
-    {
-        let x = table(&self.t, &self.v, stage2);
-        let y = x[b + row * n];
-        if is_negative(y) {
-            return self.negate(m, n, b);
-        }
-        self
-    }
-
     // Columns lo to hi come into range, in order.
     fn reduce_all(
         mut self,
@@ -351,18 +326,6 @@ impl Work {
         self
     }
 
-    // (B): column p, the only one left, becomes column b, the pivot's.
-    fn settle(mut self, m: usize, n: usize, stage2: bool, row: usize, p: usize, b: usize) -> Work
-        requires { ⌜ Fine m n self ⌝ }
-        requires { ⌜ Pivot stage2 m n row p self (n + 2) ⌝ }
-        requires { ⌜ b < n ⌝ }
-        ensures { λ r. ⌜ Settled stage2 m n row p b self r ⌝ }
-    {
-        let placed = self.bring(m, n, p, b);
-        let positive = placed.make_positive(m, n, stage2, row, b);
-        positive.reduce_all(m, n, stage2, row, b, b + 1, n)
-    }
-
     // (A) and (B) in a row whose smallest entry stands in column p.
     fn row(
         mut self,
@@ -378,14 +341,33 @@ impl Work {
         requires { ⌜ RowBegun stage2 m n k lo a p self ⌝ }
         ensures { λ r. ⌜ RowDone stage2 m n k lo a self r ⌝ }
     {
-        let swept = self.sweep(m, n, stage2, k, lo, a, p);
-        let over = swept.over;
-        if over {
-            return swept;
+        let base = k * n;
+        let x = table(&self.t, &self.v, stage2);
+        let j = other(x, base, p, lo, a);
+        if j != a {
+            let q = quotient(x, base, p, j);
+            self = self.eliminate(m, n, stage2, k, lo, a, p, j, q);
+            let over = self.over;
+            if over {
+                return self;
+            }
         }
-        let x = table(&swept.t, &swept.v, stage2);
-        let left = other(x, k * n, a, lo, a);
-        swept.settle(m, n, stage2, k, left, a - 1)
+        let b = a - 1;
+        let y = table(&self.t, &self.v, stage2);
+        let left = other(y, base, a, lo, a);
+        if left != b {
+            self = self.swap(m, n, left, b);
+        }
+        let z = table(&self.t, &self.v, stage2);
+        if negative(z, base, b) {
+            self = self.negate(m, n, b);
+        }
+        let w = table(&self.t, &self.v, stage2);
+        let c = unreduced(w, base, b, a, n);
+        if c < n {
+            self = self.reduce_all(m, n, stage2, k, b, c, n);
+        }
+        self
     }
 
     // All rows from the last to the first, each passed over where its active columns are all zero.
@@ -433,10 +415,13 @@ impl Work {
             c -= 1;
             let k = pivot_row(&self.v, n, c);
             if k < n {
-                self = self.reduce_all(m, n, true, k, c, 0, r);
-                let over = self.over;
-                if over {
-                    return self;
+                let j = unreduced(&self.v, k * n, c, 0, r);
+                if j < r {
+                    self = self.reduce_all(m, n, true, k, c, j, r);
+                    let over = self.over;
+                    if over {
+                        return self;
+                    }
                 }
             }
         }

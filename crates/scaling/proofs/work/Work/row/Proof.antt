@@ -1,57 +1,221 @@
--- `Work::row` is the definition's.
+-- `Work::row` is the definition's: what holds where the ways of each test meet, one after the other.
+use mathlib.Core.Path.{_≡_, sym, _∙_, subst}
+use mathlib.Core.Logic.{⊎-elim}
+use mathlib.Core.Bool.{false}
+use Prim.Native.Nat.{ℕ, _+_, _-_, _<_}
 use native.Mathlib.Omega.{arith}
 use borrow.Author.Needs.{needs}
 use denote.Ref.{now}
+use mir.Syntax.{w64}
+use mir.Val.{toZ, ofZ}
+use mir.Facts.{toZ-ofZ}
+use Rattle.rules.specs.Stages.{bring, makePositive}
+use Rattle.scaling.specs.declared.work.Work.{Work}
+use Rattle.scaling.specs.Join.{stateOf, Same, tableFor}
+use Rattle.scaling.specs.Rows.{Eliminated, Pivot, AllReduced, RowDone}
 use Rattle.scaling.proofs.State.{Long}
 use Rattle.scaling.proofs.TableRow.{RowIn, row-of-table, row-short}
+use Rattle.scaling.proofs.Repeating.{begun-done, begun-divides, begun-ready}
+use Rattle.scaling.proofs.Reducing.{bring-same, bring-swaps, negative-same, positive-same}
+use Rattle.scaling.proofs.Settling.{brought-pivot, signed-pivot, pivot-divisors, reduced-rest, reduced-none, settled}
 use Rattle.scaling.proofs.Rowing.{row-p, row-begun, row-refused, row-pivot, row-done}
 use Rattle.scaling.proofs.work.Work.row.Statement.{statement}
 use Rattle.scaling.proofs.work.Work.row.Tie as tie
 
-long : (c : tie.After-sweep) → Long (c .sweep .result)
-long c = record { t = search needs; v = search needs; w = search needs }
+-- ---- (A)
+row-1 : (c : tie.After-table) → let a = c .before .before .before .before .args in RowIn (a .stage2) (a .m) (a .n) (a .k) (a .t1) (now (c .table .result))
+row-1 c =
+    let s = c .before .before .before .before in
+    row-of-table (s .args .stage2) (s .pre .0) (s .pre .1 .row-in) (record { t = search needs; v = search needs; w = search needs }) (c .table .ensures)
 
-table-row : (c : tie.After-table)
-    → let w = c .before .before .before .before .before in let a = w .before .args in
-    RowIn (a .stage2) (a .m) (a .n) (a .k) (w .sweep .result) (now (c .table .result))
-table-row c =
-    let w = c .before .before .before .before .before in let s = w .before in
-    row-of-table (s .args .stage2) (s .pre .0) (s .pre .1 .row-in) (long w) (c .table .ensures)
+long-1 : (c : tie.After-eliminate) → Long (c .eliminate .result)
+long-1 c = record { t = search needs; v = search needs; w = search needs }
 
-sweep-requires : tie.Need-sweep-requires
-sweep-requires c κs = (c .pre .0, row-begun (c .pre .0) (c .pre .1))
+long-0 : (c : tie.Start) → Long (c .args .t1)
+long-0 c = record { t = search needs; v = search needs; w = search needs }
 
-returns : tie.Need-returns
-returns c = let w = c .before in let s = w .before in row-refused (s .pre .0) (s .pre .1) (w .sweep .ensures) (c .if1 .taken)
+swept : (c : tie.Joined1)
+    → let a = c .before .before .before .before .before .before .args in let w = c .if1 .self in
+    Eliminated (a .stage2) (a .m) (a .n) (a .k) (a .lo) (a .a) (a .t1) w × (w .over ≡ false) × Long w
+swept c =
+    let o = c .before in let s = c .before .before .before .before .before .before in
+    ⊎-elim
+    (λ w. rw (w .4) (
+      w .2 .ensures,
+      w .3 .left,
+      long-1 (record {
+        before = record { before = record { before = o; if1 = w .0 }; quotient = w .1 };
+        eliminate = w .2;
+      }),
+    ))
+    (λ w. rw (w .1) (begun-done (s .pre .0) (row-begun (s .pre .0) (s .pre .1)) (row-1 (o .before)) (o .other .ensures) (w .0 .left), s .pre .0 .clear, long-0 s))
+    (c .if1 .came)
+
+mul-base : tie.Need-mul-base
+mul-base c = omega (arith, row-short (c .args .stage2) (c .pre .0) (c .pre .1 .row-in))
 
 table-requires : tie.Need-table-requires
 table-requires c κs = search needs
 
-mul-other : tie.Need-mul-other
-mul-other c = let s = c .before .before .before .before .before .before in omega (arith, row-short (s .args .stage2) (s .pre .0) (s .pre .1 .row-in))
-
 other-requires : tie.Need-other-requires
-other-requires c κs =
-    let s = c .before .before .before .before .before .before in
-    omega (arith, table-row c .whole, s .pre .1 .a-in, row-p (s .pre .0) (s .pre .1))
+other-requires c κs = let s = c .before .before .before .before in omega (arith, row-1 c .whole, s .pre .1 .a-in, row-p (s .pre .0) (s .pre .1))
 
-sub-settle : tie.Need-sub-settle
-sub-settle c = let s = c .before .before .before .before .before .before .before in omega (arith, row-p (s .pre .0) (s .pre .1))
+quotient-requires : tie.Need-quotient-requires
+quotient-requires c κs =
+    let o = c .before in let s = c .before .before .before .before .before .before in
+    begun-divides (s .pre .0) (row-begun (s .pre .0) (s .pre .1)) (row-1 (o .before)) (o .other .ensures) (c .if1 .taken)
 
-settle-requires : tie.Need-settle-requires
-settle-requires c κs =
-    let e = c .before .before .before .before .before in let w = e .before in let s = w .before in (
-      w .sweep .ensures .tracks .fine (e .if1 .left),
+eliminate-requires : tie.Need-eliminate-requires
+eliminate-requires c κs =
+    let o = c .before .before in let s = c .before .before .before .before .before .before .before in (
+      s .pre .0,
+      begun-ready (s .pre .0) (row-begun (s .pre .0) (s .pre .1)) (row-1 (o .before)) (o .other .ensures) (c .before .if1 .taken)
+          (toZ w64 (ofZ w64 (c .quotient .result))) (rw (toZ-ofZ {w = w64} (record { sfits = c .quotient .ok })) (c .quotient .ensures)),
+    )
+
+returns : tie.Need-returns
+returns c = let s = c .before .before .before .before .before .before .before .before .before in row-refused (s .pre .0) (s .pre .1) (c .before .eliminate .ensures) (c .if2 .taken)
+
+-- ---- (B): the column left becomes column b
+sub-b : tie.Need-sub-b
+sub-b c = let s = c .before .before .before .before .before .before in omega (arith, row-p (s .pre .0) (s .pre .1))
+
+row-2 : (c : tie.After-table2)
+    → let j = c .before .before .before .before in let a = j .before .before .before .before .before .before .args in RowIn (a .stage2) (a .m) (a .n) (a .k) (j .if1 .self) (now (c .table2 .result))
+row-2 c =
+    let j = c .before .before .before .before in let s = j .before .before .before .before .before .before in
+    row-of-table (s .args .stage2) (s .pre .0) (s .pre .1 .row-in) (swept j .2) (c .table2 .ensures)
+
+pivot-2 : (c : tie.After-other2)
+    → let j = c .before .before .before .before .before in let a = j .before .before .before .before .before .before .args in Pivot (a .stage2) (a .m) (a .n) (a .k) (c .other2 .result) (j .if1 .self) (a .n + 2)
+pivot-2 c =
+    let j = c .before .before .before .before .before in let s = j .before .before .before .before .before .before in let e = swept j in
+    row-pivot (s .pre .0) (s .pre .1) (e .0) (e .1) (row-2 (c .before)) (c .other2 .ensures)
+
+-- b is a column
+column : (c : tie.Start) → c .args .a - 1 < c .args .n
+column c = omega (arith, row-p (c .pre .0) (c .pre .1), c .pre .1 .a-in)
+
+table-requires-2 : tie.Need-table-requires-2
+table-requires-2 c κs = search needs
+
+other-requires-2 : tie.Need-other-requires-2
+other-requires-2 c κs = let s = c .before .before .before .before .before .before .before .before .before .before in omega (arith, row-2 c .whole, s .pre .1 .a-in, row-p (s .pre .0) (s .pre .1))
+
+swap-requires : tie.Need-swap-requires
+swap-requires c κs =
+    let o = c .before in let j = o .before .before .before .before .before in let p = pivot-2 o in (
+      swept j .0 .tracks .fine (swept j .1),
+      record { i-in = p .b-in; j-in = column (j .before .before .before .before .before .before); apart = c .if3 .taken; room = omega (arith, p .room) },
+    )
+
+long-3 : (c : tie.After-swap) → Long (c .swap .result)
+long-3 c = record { t = search needs; v = search needs; w = search needs }
+
+brought : (c : tie.Joined3)
+    → let o = c .before in let j = o .before .before .before .before .before in let a = j .before .before .before .before .before .before .args in
+    Same (a .m) (a .n) (c .if3 .self) (bring (o .other2 .result) (a .a - 1) (stateOf (a .m) (a .n) (j .if1 .self))) × Long (c .if3 .self)
+brought c =
+    let o = c .before in let j = o .before .before .before .before .before in let a = j .before .before .before .before .before .before .args in
+    ⊎-elim
+    (λ w. rw (w .2, bring-swaps (o .other2 .result) (a .a - 1) (stateOf (a .m) (a .n) (j .if1 .self)) (w .0 .taken))
+    (w .1 .ensures, long-3 (record { before = record { before = o; if3 = w .0 }; swap = w .1 })))
+    (λ w. rw (w .1) (bring-same (swept j .0 .tracks .fine (swept j .1)) (o .other2 .result) (a .a - 1) (w .0 .left), swept j .2))
+    (c .if3 .came)
+
+-- ---- its sign
+row-3 : (c : tie.After-table3)
+    → let j = c .before .before .before .before in let a = j .before .before .before .before .before .before .before .before .before .before .before .before .args in RowIn (a .stage2) (a .m) (a .n) (a .k) (j .if3 .self) (now (c .table3 .result))
+row-3 c =
+    let j = c .before .before .before .before in let s = j .before .before .before .before .before .before .before .before .before .before .before .before in
+    row-of-table (s .args .stage2) (s .pre .0) (s .pre .1 .row-in) (brought j .1) (c .table3 .ensures)
+
+pivot-3 : (c : tie.Joined3) → let a = c .before .before .before .before .before .before .before .before .before .before .before .before .args in Pivot (a .stage2) (a .m) (a .n) (a .k) (a .a - 1) (c .if3 .self) 1
+pivot-3 c = let s = c .before .before .before .before .before .before .before .before .before .before .before .before in brought-pivot (pivot-2 (c .before)) (s .args .a - 1) (column s) (brought c .0)
+
+table-requires-3 : tie.Need-table-requires-3
+table-requires-3 c κs = search needs
+
+negative-requires : tie.Need-negative-requires
+negative-requires c κs = omega (arith, row-3 c .whole, column (c .before .before .before .before .before .before .before .before .before .before .before .before .before .before .before .before))
+
+negate-requires : tie.Need-negate-requires
+negate-requires c κs =
+    let j = c .before .before .before .before .before .before in
+    (brought j .0 .fine, record { i-in = column (j .before .before .before .before .before .before .before .before .before .before .before .before); room = omega (arith, pivot-3 j .room) })
+
+long-4 : (c : tie.After-negate) → Long (c .negate .result)
+long-4 c = record { t = search needs; v = search needs; w = search needs }
+
+signed : (c : tie.Joined4)
+    → let j = c .before .before .before .before .before .before in let a = j .before .before .before .before .before .before .before .before .before .before .before .before .args in
+    Same (a .m) (a .n) (c .if4 .self) (makePositive (tableFor (a .stage2)) (a .k) (a .a - 1) (stateOf (a .m) (a .n) (j .if3 .self))) × Long (c .if4 .self)
+signed c =
+    let g = c .before in let t = g .before in let j = c .before .before .before .before .before .before in let s = j .before .before .before .before .before .before .before .before .before .before .before .before in
+    ⊎-elim
+    (λ w. rw (w .2) (
+      negative-same (row-3 t) (s .args .a - 1) (column s) (sym (g .negative .ensures) ∙ w .0 .taken) (w .1 .ensures),
+      long-4 (record { before = record { before = g; if4 = w .0 }; negate = w .1 }),
+    ))
+    (λ w. rw (w .1) (
+      positive-same (row-3 t) (s .args .a - 1) (column s) (brought j .0 .fine) (sym (g .negative .ensures) ∙ w .0 .left),
+      brought j .1,
+    ))
+    (c .if4 .came)
+
+-- ---- the columns after it
+row-4 : (c : tie.After-table4)
+    → let j = c .before .before .before .before in let a = j .before .before .before .before .before .before .before .before .before .before .before .before .before .before .before .before .before .before .args in RowIn (a .stage2) (a .m) (a .n) (a .k) (j .if4 .self) (now (c .table4 .result))
+row-4 c =
+    let j = c .before .before .before .before in let s = j .before .before .before .before .before .before .before .before .before .before .before .before .before .before .before .before .before .before in
+    row-of-table (s .args .stage2) (s .pre .0) (s .pre .1 .row-in) (signed j .1) (c .table4 .ensures)
+
+pivot-4 : (c : tie.Joined4) → let a = c .before .before .before .before .before .before .before .before .before .before .before .before .before .before .before .before .before .before .args in Pivot (a .stage2) (a .m) (a .n) (a .k) (a .a - 1) (c .if4 .self) (a .n)
+pivot-4 c =
+    let j = c .before .before .before .before .before .before in let s = j .before .before .before .before .before .before .before .before .before .before .before .before in
+    signed-pivot (pivot-2 (j .before)) (s .args .a - 1) (column s) (brought j .0) (signed c .0)
+
+table-requires-4 : tie.Need-table-requires-4
+table-requires-4 c κs = search needs
+
+unreduced-requires : tie.Need-unreduced-requires
+unreduced-requires c κs = let j = c .before .before .before .before in pivot-divisors (row-4 c) (signed j .0 .fine) (pivot-4 j) (omega arith)
+
+reduce-all-requires : tie.Need-reduce-all-requires
+reduce-all-requires c κs =
+    let u = c .before in let j = u .before .before .before .before .before in let s = j .before .before .before .before .before .before .before .before .before .before .before .before .before .before .before .before .before .before in (
+      signed j .0 .fine,
       (
-        row-pivot (s .pre .0) (s .pre .1) (w .sweep .ensures) (e .if1 .left) (table-row (c .before)) (c .other .ensures),
-        omega (arith, row-p (s .pre .0) (s .pre .1), s .pre .1 .a-in),
+        pivot-4 j,
+        record { upto = omega arith; apart = λ d x y e. omega (arith, u .unreduced .ensures .low (s .pre .1 .a-in), row-p (s .pre .0) (s .pre .1)) },
       ),
     )
 
+done : (c : tie.After-unreduced)
+    → let j = c .before .before .before .before .before in let a = j .before .before .before .before .before .before .before .before .before .before .before .before .before .before .before .before .before .before .args in (r : Work)
+    → AllReduced (a .stage2) (a .m) (a .n) (a .k) (a .a - 1) (a .a) (a .n) (j .if4 .self) r
+    → RowDone (a .stage2) (a .m) (a .n) (a .k) (a .lo) (a .a) (a .t1) r
+done c r x =
+    let j = c .before .before .before .before .before in let i = j .before .before .before .before .before .before in let o = i .before in let e = o .before .before .before .before .before in let s = e .before .before .before .before .before .before in let a = s .args in
+    let next : a .a ≡ a .a - 1 + 1 = omega (arith, row-p (s .pre .0) (s .pre .1)) in
+    row-done (s .pre .0) (s .pre .1) (swept e .0) (swept e .1) (row-2 (o .before)) (o .other2 .ensures)
+    (settled (pivot-2 o) (a .a - 1) (column s) (brought i .0) (signed j .0)
+    (subst (λ (lo : ℕ). AllReduced (a .stage2) (a .m) (a .n) (a .k) (a .a - 1) lo (a .n) (j .if4 .self) r) next x))
+
 returns-2 : tie.Need-returns-2
 returns-2 c =
-    let o = c .before in let e = o .before .before .before .before .before in let w = e .before in let s = w .before in
-    row-done (s .pre .0) (s .pre .1) (w .sweep .ensures) (e .if1 .left) (table-row (o .before)) (o .other .ensures) (c .settle .ensures)
+    let u = c .before .before in let j = u .before .before .before .before .before in let s = j .before .before .before .before .before .before .before .before .before .before .before .before .before .before .before .before .before .before in
+    done u (c .reduce-all .result) (reduced-rest (row-4 (u .before)) (signed j .0 .fine) (pivot-4 j) (omega arith) (u .unreduced .ensures)
+    (u .unreduced .ensures .low (s .pre .1 .a-in)) (c .reduce-all .ensures))
+
+returns-3 : tie.Need-returns-3
+returns-3 c =
+    let u = c .before in let j = u .before .before .before .before .before in let s = j .before .before .before .before .before .before .before .before .before .before .before .before .before .before .before .before .before .before in
+    done u (j .if4 .self) (reduced-none (row-4 (u .before)) (signed j .0 .fine) (pivot-4 j) (omega arith) (u .unreduced .ensures)
+    (u .unreduced .ensures .low (s .pre .1 .a-in)) (c .if5 .left))
 
 pub row-spec : {M : Type 1} → statement M
-row-spec = tie.close (tie.spec sweep-requires returns table-requires mul-other other-requires sub-settle settle-requires returns-2)
+row-spec =
+    tie.close
+    (tie.spec mul-base table-requires other-requires quotient-requires eliminate-requires returns sub-b table-requires-2 other-requires-2 swap-requires
+    table-requires-3 negative-requires negate-requires table-requires-4 unreduced-requires reduce-all-requires returns-2 returns-3)
