@@ -9,6 +9,7 @@ use native.Mathlib.Omega.{arith}
 use lib.Dec.{leb}
 use lib.ListN.{length}
 use lib.IntN.{ℤ}
+use Rattle.whole.proofs.Tests.{and-both}
 use Rattle.rules.specs.Bytes.{bytesOf, wholeNumbers}
 use Rattle.rules.specs.Limits.{sizesInRange}
 use Rattle.rules.specs.Problem.{Problem, N}
@@ -16,10 +17,9 @@ use Rattle.rules.specs.Stages.{run, H, U, W}
 use Rattle.rules.specs.Calls.{Check, Verdict, taken, refused, buildVerdict, buildReply, buildOf, built, problemFits}
 use Rattle.rules.specs.Calls.{moduliCheck, entriesCheck, rangeCheck, lentAfter, filled, contentsH, contentsV, contentsW}
 use Rattle.rules.specs.Bench.{problemOf, hasRoom, benchBuildVerdict, benchBuildOf, BenchBuilt}
-use Rattle.theory.proofs.MoreTests.{and-true}
-use Rattle.theory.proofs.MoreLists.{length-grid}
 use Rattle.theory.proofs.Sizes.{Limited, N-le-24, room-for-H, room-for-V, room-for-W}
 use Rattle.theory.proofs.Accepted.{build-accepted}
+use Rattle.theory.proofs.Grid.{length-grid}
 use Rattle.scaling.specs.declared.BuildAnswer.{BuildAnswer}
 use Rattle.scaling.specs.Checks.{given}
 use Rattle.scaling.specs.Answers as scaling
@@ -90,8 +90,8 @@ module _ {m n : ℕ} {matrix moduli h v w : List ℕ} {a p x y z : List ℤ} {r 
       let t = problem-heard m n (K .reads-matrix) (K .reads-moduli) l f in
       rw (t .0, t .1) (subst (λ (Q : Problem). problemFits Q ≡ true) (t .2) f))
       (λ f.
-      let t = and-true (wholeNumbers matrix && wholeNumbers moduli) (problemFits P) f in
-      let u = and-true (wholeNumbers matrix) (wholeNumbers moduli) (t .0) in
+      let t = and-both (wholeNumbers matrix && wholeNumbers moduli) (problemFits P) f in
+      let u = and-both (wholeNumbers matrix) (wholeNumbers moduli) (t .0) in
       subst (λ (Q : Problem). problemFits Q ≡ true) (sym (problem-read m n (K .reads-matrix) (K .reads-moduli) l (u .0) (u .1) (t .1))) (t .1))
 
   problem-same : sizesInRange m n ≡ true → problemFits P′ ≡ true → P′ ≡ P
@@ -136,8 +136,8 @@ module _ {m n : ℕ} {matrix moduli h v w : List ℕ} {a p x y z : List ℤ} {r 
   unfolding benchBuildOf contentsH contentsV contentsW
   taken-writes B L o e =
       let c : N P ≡ n + r .moduli = ap (λ (k : ℕ). n + k) (sym (B .moduli)) in
-      let t = and-true (hasRoom 192 h && hasRoom 576 v) (hasRoom 576 w) o in
-      let u = and-true (hasRoom 192 h) (hasRoom 576 v) (t .0) in
+      let t = and-both (hasRoom 192 h && hasRoom 576 v) (hasRoom 576 w) o in
+      let u = and-both (hasRoom 192 h) (hasRoom 576 v) (t .0) in
       let square = ap₂ (λ (i j : ℕ). i * j) c c in
       record {
         columns = omega (arith, N-le-24 P L);

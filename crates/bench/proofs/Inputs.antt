@@ -10,13 +10,12 @@ use lib.Dec.{ltb, leb, eqb}
 use lib.ListN.{length, take}
 use lib.Seq.{length-take-le}
 use lib.IntN.{ℤ}
-use Rattle.whole.proofs.Tests.{le?, eq?}
+use Rattle.whole.proofs.Tests.{le?, eq?, passed, and-both}
 use Rattle.rules.specs.Bytes.{wholeNumbers, numbersIn, numbersOf}
 use Rattle.rules.specs.Problem.{Problem}
 use Rattle.rules.specs.Calls.{problemFits, formulaFits}
 use Rattle.rules.specs.Bench.{problemOf}
 use Rattle.rules.specs.Bench as bench
-use Rattle.theory.proofs.MoreTests.{passed, and-true}
 use Rattle.scaling.specs.Checks.{given}
 use Rattle.scaling.specs.Answers.{formulaOf}
 use Rattle.scaling.proofs.Verdicts.{Sizes, lengths-passed}
@@ -47,7 +46,7 @@ module _ {s : List ℕ} {most : ℕ} {xs : List ℤ} (R : Reads s most xs) where
   heard h = go (readable s (suc most)) refl
     where
       go : (b : Bool) → readable s (suc most) ≡ b → (wholeNumbers s ≡ true) × (xs ≡ numbersOf s)
-      go true e = (and-true (wholeNumbers s) (ltb (numbersIn s) (suc most)) e .0, R .right e)
+      go true e = (and-both (wholeNumbers s) (ltb (numbersIn s) (suc most)) e .0, R .right e)
       go false e = absurd (omega (arith, R .wrong e))
 
   read : wholeNumbers s ≡ true → length (numbersOf s) ≤ most → xs ≡ numbersOf s
@@ -80,7 +79,7 @@ module _ (P : Problem) {cs es : List ℕ} {c e : List ℤ} (C : Reads cs 64 c) (
   pub formula-heard : formulaFits P (formulaOf c e) ≡ true
       → (wholeNumbers cs ≡ true) × (wholeNumbers es ≡ true) × (formulaOf c e ≡ bench.formulaOf cs es)
   formula-heard f =
-      let t = and-true (eqb (length e) (length c * P .n)) (leb (length c) 64) f in
+      let t = and-both (eqb (length e) (length c * P .n)) (leb (length c) 64) f in
       let k = passed (le? (length c) 64) (t .1) in
       let x = heard C k in
       let y = heard E (omega (arith, passed (eq? (length e) (length c * P .n)) (t .0), mul-le-mul k l)) in
@@ -89,7 +88,7 @@ module _ (P : Problem) {cs es : List ℕ} {c e : List ℤ} (C : Reads cs 64 c) (
   pub formula-read : wholeNumbers cs ≡ true → wholeNumbers es ≡ true → formulaFits P (bench.formulaOf cs es) ≡ true
       → formulaOf c e ≡ bench.formulaOf cs es
   formula-read v w f =
-      let t = and-true (eqb (length (numbersOf es)) (length (numbersOf cs) * P .n)) (leb (length (numbersOf cs)) 64) f in
+      let t = and-both (eqb (length (numbersOf es)) (length (numbersOf cs) * P .n)) (leb (length (numbersOf cs)) 64) f in
       let k = passed (le? (length (numbersOf cs)) 64) (t .1) in
       ap₂ formulaOf (read C v k)
       (read E w (omega (arith, passed (eq? (length (numbersOf es)) (length (numbersOf cs) * P .n)) (t .0), mul-le-mul k l)))

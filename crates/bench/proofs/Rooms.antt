@@ -12,8 +12,8 @@ use lib.Seq.{take-suc-set}
 use lib.IntN.{ℤ}
 use mir.Syntax.{w32}
 use mir.Val.{toZ}
+use Rattle.whole.proofs.Tests.{true-not-false}
 use Rattle.rules.specs.Bytes.{long, longs, wholeNumbers, byteAt}
-use Rattle.theory.proofs.ExtraTests.{true-not-false}
 use Rattle.bench.specs.Words.{readable, Decoded, roomOf}
 use Rattle.bench.proofs.Bytes.{longs-suc}
 

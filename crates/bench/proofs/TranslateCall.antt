@@ -9,6 +9,7 @@ use native.Mathlib.Omega.{arith}
 use lib.Dec.{leb}
 use lib.ListN.{length}
 use lib.IntN.{ℤ}
+use Rattle.whole.proofs.Tests.{and-both}
 use Rattle.rules.specs.Bytes.{bytesOf, wholeNumbers}
 use Rattle.rules.specs.Limits.{sizesInRange}
 use Rattle.rules.specs.Search.{first}
@@ -19,11 +20,10 @@ use Rattle.rules.specs.Calls.{Check, Verdict, taken, refused, translateVerdict,
 use Rattle.rules.specs.Calls.{moduliCheck, entriesCheck, exponentsCheck, rangeCheck, termsCheck, termRefused, lentAfter, filled, translatedExponents}
 use Rattle.rules.specs.Bench.{problemOf, hasRoom, benchTranslateVerdict, benchTranslateOf, BenchTranslated}
 use Rattle.rules.specs.Bench as bench
-use Rattle.theory.proofs.MoreTests.{and-true}
-use Rattle.theory.proofs.MoreLists.{length-grid}
 use Rattle.theory.proofs.Run.{run-right}
 use Rattle.theory.proofs.Sizes.{room-for-exponents}
 use Rattle.theory.proofs.Accepted.{AcceptedProblem, AcceptedFormula, translate-accepted}
+use Rattle.theory.proofs.Grid.{length-grid}
 use Rattle.scaling.specs.declared.TranslateAnswer.{TranslateAnswer}
 use Rattle.scaling.specs.Checks.{given}
 use Rattle.scaling.specs.Answers as scaling
@@ -105,7 +105,7 @@ module _ {m n : ℕ} {matrix moduli cs es kept out : List ℕ} {a p c e x y : Li
   all-heard : sizesInRange m n ≡ true → inputs′ ≡ true → Same × (inputs ≡ true)
   all-heard o i =
       let l = sizes-passed m n o in
-      let t = and-true (problemFits P′) (formulaFits P′ f′) i in
+      let t = and-both (problemFits P′) (formulaFits P′ f′) i in
       let u = problem-heard m n (K .reads-matrix) (K .reads-moduli) l (t .0) in
       let v = formula-heard P′ (K .reads-coefficients) (K .reads-exponents) (l .n-high) (t .1) in
       let s : Same = (u .2, v .2) in
@@ -118,11 +118,11 @@ module _ {m n : ℕ} {matrix moduli cs es kept out : List ℕ} {a p c e x y : Li
       let w₂ = wholeNumbers moduli in
       let w₃ = wholeNumbers cs in
       let w₄ = wholeNumbers es in
-      let t₅ = and-true (w₁ && w₂ && w₃ && w₄ && problemFits P) (formulaFits P f) i in
-      let t₄ = and-true (w₁ && w₂ && w₃ && w₄) (problemFits P) (t₅ .0) in
-      let t₃ = and-true (w₁ && w₂ && w₃) w₄ (t₄ .0) in
-      let t₂ = and-true (w₁ && w₂) w₃ (t₃ .0) in
-      let t₁ = and-true w₁ w₂ (t₂ .0) in
+      let t₅ = and-both (w₁ && w₂ && w₃ && w₄ && problemFits P) (formulaFits P f) i in
+      let t₄ = and-both (w₁ && w₂ && w₃ && w₄) (problemFits P) (t₅ .0) in
+      let t₃ = and-both (w₁ && w₂ && w₃) w₄ (t₄ .0) in
+      let t₂ = and-both (w₁ && w₂) w₃ (t₃ .0) in
+      let t₁ = and-both w₁ w₂ (t₂ .0) in
       let q = problem-read m n (K .reads-matrix) (K .reads-moduli) l (t₁ .0) (t₁ .1) (t₄ .1) in
       let g = formula-read P (K .reads-coefficients) (K .reads-exponents) (l .n-high) (t₂ .1) (t₃ .1) (t₅ .1) in
       fits-same (q, g) ∙ rw (t₄ .1) (t₅ .1)
@@ -167,7 +167,7 @@ module _ {m n : ℕ} {matrix moduli cs es kept out : List ℕ} {a p c e x y : Li
       → outputs ≡ true → benchTranslateVerdict m n matrix moduli cs es kept out ≡ taken → Taken m n matrix moduli cs es kept out count r x₁ y₁
   unfolding benchTranslateOf translatedExponents
   taken-writes B k A F o e =
-      let t = and-true (hasRoom 64 kept) (hasRoom 1024 out) o in
+      let t = and-both (hasRoom 64 kept) (hasRoom 1024 out) o in
       let l : length (translatedExponents P f) ≡ count * r .d
       = length-grid (terms f) (d P (run P)) (λ t g. translated P (run P) (term P f t) g) ∙ ap₂ (λ (i j : ℕ). i * j) (sym k) (sym (B .d)) in
       record {

@@ -15,9 +15,9 @@ use Rattle.rules.specs.Problem.{Problem, N}
 use Rattle.rules.specs.Steps.{State, get}
 use Rattle.rules.specs.Stages.{run, W}
 use Rattle.rules.specs.Calls.{taken, refused, verdict, rangeCheck, grid, contentsH, contentsV, contentsW, filled, built}
-use Rattle.theory.proofs.MoreLists.{table, grid-cong, grid-of-table}
 use Rattle.theory.proofs.Run.{run-right}
 use Rattle.theory.proofs.Groups.{d-le-n}
+use Rattle.theory.proofs.Grid.{table, grid-cong, grid-of-table}
 use Rattle.scaling.specs.declared.run.Outcome.{Outcome}
 use Rattle.scaling.specs.Join.{stateOf, tableFor, heightFor, entriesFor}
 use Rattle.scaling.specs.Problem.{WellFormed, Ran}

@@ -10,6 +10,7 @@ use lib.Dec.{leb, eqb}
 use lib.ListN.{length, take}
 use lib.IntN.{ℤ}
 use borrow.Author.Tests.{leb-true, eqb-true}
+use Rattle.whole.proofs.Tests.{and-both}
 use Rattle.rules.specs.Limits.{mostTerms, roomCoefficients, roomExponents}
 use Rattle.rules.specs.Search.{Found, none, found, first}
 use Rattle.rules.specs.Problem.{Problem}
@@ -17,8 +18,7 @@ use Rattle.rules.specs.Stages.{run}
 use Rattle.rules.specs.Formulas.{Formula, terms, term, d}
 use Rattle.rules.specs.Calls.{Check, Verdict, taken, refused, verdict, exponentsCheck, rangeCheck, termRefused, termsFault, termsCheck}
 use Rattle.rules.specs.Calls.{filled, translatedExponents, translatedTo, translateOf, translateVerdict}
-use Rattle.theory.proofs.MoreSearch.{nowhere-found}
-use Rattle.theory.proofs.MoreTests.{and-true}
+use Rattle.theory.proofs.Search.{first-nowhere}
 use Rattle.scaling.specs.declared.TranslateAnswer.{TranslateAnswer}
 use Rattle.scaling.specs.declared.run.Outcome.{Outcome}
 use Rattle.scaling.specs.Problem.{problemOf, WellFormed, Ran}
@@ -68,7 +68,7 @@ module _ {P : Problem} {r : Outcome} (F : WellFormed P) (R : Ran P r) (f : Formu
     past-9 e = past-7 ∙ says-taken s e
 
     pub all-taken : number ≡ 0 → AllTaken P f
-    all-taken e = record { each = nowhere-found bad (terms f) (go (first bad 0 (terms f)) (says-taken s e)) }
+    all-taken e = record { each = λ t h. first-nowhere bad 0 (terms f) (go (first bad 0 (terms f)) (says-taken s e)) t (omega arith) }
       where
         bad : ℕ → Bool
         bad t = termRefused P (run P) (term P f t)
@@ -100,12 +100,12 @@ module _ {m n : ℕ} {matrix moduli es : List ℤ} {number place : ℕ} (cs ks t
 
     pub room : RoomToTranslate ks ts
     room =
-        let b = and-true (leb roomCoefficients (length ks)) (leb roomExponents (length ts)) (passed a e .room) in
+        let b = and-both (leb roomCoefficients (length ks)) (leb roomExponents (length ts)) (passed a e .room) in
         record { kept = leb-true roomCoefficients (length ks) (b .0); translated = leb-true roomExponents (length ts) (b .1) }
 
     lengths : (length es ≡ length cs * n) × (length cs ≤ mostTerms)
     lengths =
-        let b = and-true (eqb (length es) (length cs * n)) (leb (length cs) mostTerms) (passed a e .also) in
+        let b = and-both (eqb (length es) (length cs * n)) (leb (length cs) mostTerms) (passed a e .also) in
         (eqb-true (length es) (length cs * n) (b .0), leb-true (length cs) mostTerms (b .1))
 
     pub few-exponents : length es ≤ 1024

@@ -11,9 +11,8 @@ use lib.Signed.{_≤ℤ_, _<ℤ_, mag, ltZ, ltZ-yes, ltZ-no, quotZ, nonNeg}
 use mir.Syntax.{Width, w32, w64}
 use mir.Val.{SFits, toZ, ofZ, hbits}
 use mir.Facts.{toZ-ofZ}
-use borrow.Author.Tests.{ltb-true, ltb-false, lt-ltb, le-ltb}
+use borrow.Author.Tests.{ltb-true, ltb-false, lt-ltb, le-ltb, ne-eqb}
 use Rattle.whole.specs.Division.{floorZ}
-use Rattle.whole.proofs.Tests.{eqb-false}
 use Rattle.whole.proofs.Order.{zarith, -is, fits, fits-abs, abs-neg, abs-add, abs-sub, abs-mul}
 use Rattle.whole.proofs.Division.{quot-le}
 use Rattle.rules.specs.Limits.{M, isZero, beyond}
@@ -101,7 +100,7 @@ keep-small z = go (beyond z) refl
 -- ---- a test for 0
 pub zero-bits : (w : Width) → toZ w 0 ≡ pos 0 → (x : ℤ) → SFits w x → eqb (ofZ w x) 0 ≡ isZero x
 zero-bits w z (pos n) f = refl
-zero-bits w z (negsuc n) f = eqb-false (ofZ w (negsuc n)) 0 (λ e. omega (zarith, sym (toZ-ofZ f) ∙ ap (toZ w) e ∙ z)) ∙ sym (eqb-false (suc n) 0 (λ e. omega arith))
+zero-bits w z (negsuc n) f = ne-eqb (ofZ w (negsuc n)) 0 (λ e. omega (zarith, sym (toZ-ofZ f) ∙ ap (toZ w) e ∙ z)) ∙ sym (ne-eqb (suc n) 0 (λ e. omega arith))
 
 pub bits-pos : (y : ℤ) → natAbs y ≤ 2147483648 → 0 < natAbs y → 0 < ofZ w64 y
 bits-pos (pos b) h l = l

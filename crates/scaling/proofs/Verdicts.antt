@@ -12,12 +12,13 @@ use lib.Signed.{_≤ℤ_}
 use borrow.Author.Tests.{leb-true, eqb-true}
 use Rattle.whole.specs.Lists.{nth}
 use Rattle.whole.proofs.Order.{zarith, parts}
+use Rattle.whole.proofs.Tests.{and-both}
 use Rattle.rules.specs.Limits.{sizesInRange, modulusInRange, entryInRange}
 use Rattle.rules.specs.Search.{Found, none, found}
 use Rattle.rules.specs.Problem.{Problem}
 use Rattle.rules.specs.Calls.{Check, Verdict, taken, refused, verdict, problemFits, exponentsCheck}
-use Rattle.theory.proofs.MoreTests.{and-true}
-use Rattle.theory.proofs.Accepted.{all-pass, unless-none, none-out, between, small, exponents-small}
+use Rattle.theory.proofs.Accepted.{all-pass, unless-none, none-out, exponents-small}
+use Rattle.theory.proofs.Limits.{between, small}
 use Rattle.scaling.specs.Problem.{problemOf, WellFormed}
 use Rattle.scaling.specs.Checks.{Says, takes, refuses, given, problemChecks}
 
@@ -68,9 +69,9 @@ pub record Sizes (m n : ℕ) : Type 0 where
 
 pub sizes-passed : (m n : ℕ) → sizesInRange m n ≡ true → Sizes m n
 sizes-passed m n e =
-    let both = and-true (leb 1 m && leb m 8) (leb 1 n && leb n 16) e in
-    let rows = and-true (leb 1 m) (leb m 8) (both .0) in
-    let quantities = and-true (leb 1 n) (leb n 16) (both .1) in
+    let both = and-both (leb 1 m && leb m 8) (leb 1 n && leb n 16) e in
+    let rows = and-both (leb 1 m) (leb m 8) (both .0) in
+    let quantities = and-both (leb 1 n) (leb n 16) (both .1) in
     record {
       m-low = leb-true 1 m (rows .0);
       m-high = leb-true m 8 (rows .1);
@@ -80,7 +81,7 @@ sizes-passed m n e =
 
 pub lengths-passed : (P : Problem) → problemFits P ≡ true → (length (P .matrix) ≡ P .m * P .n) × (length (P .moduli) ≡ P .m)
 lengths-passed P e =
-    let both = and-true (eqb (length (P .matrix)) (P .m * P .n)) (eqb (length (P .moduli)) (P .m)) e in
+    let both = and-both (eqb (length (P .matrix)) (P .m * P .n)) (eqb (length (P .moduli)) (P .m)) e in
     (eqb-true (length (P .matrix)) (P .m * P .n) (both .0), eqb-true (length (P .moduli)) (P .m) (both .1))
 
 -- ---- 1 to 5, of a problem as it was given
@@ -98,7 +99,7 @@ module _ (m n : ℕ) (matrix moduli : List ℤ) (more outputs : Bool) where
   problem-passed e =
       let a = all-pass (problemChecks P (problemFits P && more) outputs) e in
       let sizes = sizes-passed m n (unless-none (sizesInRange m n) (a .0)) in
-      let inputs = and-true (problemFits P) more (unless-none (problemFits P && more) (a .1 .0)) in
+      let inputs = and-both (problemFits P) more (unless-none (problemFits P && more) (a .1 .0)) in
       let lengths = lengths-passed P (inputs .0) in
       let modulusIn : (i : ℕ) → (pos 0 ≤ℤ nth moduli i) × (nth moduli i ≤ℤ pos 1000) =
       λ i. between (pos 0) (pos 1000) (nth moduli i) (none-out modulusInRange refl moduli (a .1 .1 .1 .0) i) in

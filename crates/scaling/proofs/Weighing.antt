@@ -18,8 +18,8 @@ use Rattle.whole.proofs.Order.{fits}
 use Rattle.whole.proofs.Division.{rem-le}
 use Rattle.rules.specs.Problem.{Problem, modulus}
 use Rattle.rules.specs.Formulas.{rowTimes, weight}
-use Rattle.theory.proofs.MoreTests.{isZero?}
 use Rattle.theory.proofs.Weights.{weight-without, weight-with}
+use Rattle.theory.proofs.Limits.{isZero?}
 use Rattle.scaling.specs.Problem.{problemOf, WellFormed}
 use Rattle.scaling.specs.Terms.{from, Monomial, Products, Weight}
 use Rattle.scaling.proofs.Values.{fits32}

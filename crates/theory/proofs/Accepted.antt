@@ -8,11 +8,11 @@ use native.Mathlib.Omega.{arith}
 use native.Mathlib.Decide.{decLt}
 use lib.Dec.{leb, eqb}
 use lib.ListN.{length, List·getD-eq-default}
-use lib.IntN.{ℤ, pos, negℤ, natAbs}
-use lib.Signed.{_≤ℤ_, leZ, leZ-yes}
+use lib.IntN.{ℤ, pos, natAbs}
+use lib.Signed.{_≤ℤ_}
+use borrow.Author.Tests.{leb-true, eqb-true, not-false, not-true}
 use Rattle.whole.specs.Lists.{nth}
-use Rattle.whole.proofs.Tests.{le?, lt?, eq?}
-use Rattle.whole.proofs.Order.{zarith, parts, P-neg, N-neg}
+use Rattle.whole.proofs.Tests.{lt?, passed, failed, and-both, or-neither}
 use Rattle.rules.specs.Limits.{M, beyond, within, sizesInRange, modulusInRange, entryInRange, exponentInRange, mostTerms}
 use Rattle.rules.specs.Search.{Found, none, found, first}
 use Rattle.rules.specs.Problem.{Problem, entry, modulus}
@@ -21,10 +21,10 @@ use Rattle.rules.specs.Formulas.{isNone, isFree, passes, Free, d, translated, F
 use Rattle.rules.specs.Calls.{Check, taken, refused, verdict, unless, firstOut, termsFault, termRefused, problemFits, formulaFits}
 use Rattle.rules.specs.Calls.{sizesCheck, inputsCheck, outputsCheck, moduliCheck, entriesCheck, exponentsCheck, rangeCheck, termsCheck}
 use Rattle.rules.specs.Calls.{buildVerdict, weighVerdict, translateVerdict}
-use Rattle.theory.proofs.MoreTests.{passed, failed, and-true, or-false, not-false, not-true}
-use Rattle.theory.proofs.MoreSearch.{Nowhere, none?, nowhere-found}
 use Rattle.theory.proofs.Weights.{free-of-isFree}
 use Rattle.theory.proofs.Sizes.{Limited, LimitedExponents}
+use Rattle.theory.proofs.Limits.{between, small}
+use Rattle.theory.proofs.Search.{Nowhere, none?, first-nowhere}
 
 pub record AcceptedProblem (P : Problem) : Type 0 where
   pub limited : Limited P
@@ -65,45 +65,29 @@ unfolding firstOut
 none-out good z xs e i = go (decLt i (length xs))
   where
     go : Dec (i < length xs) → good (nth xs i) ≡ true
-    go (yes h) = not-false (good (nth xs i)) (nowhere-found (λ i. not (good (nth xs i))) (length xs) e i h)
+    go (yes h) = not-false (good (nth xs i)) (first-nowhere (λ i. not (good (nth xs i))) 0 (length xs) e i (omega arith))
     go (no h) =
         let l : length xs ≤ i = omega arith in
         rw (List·getD-eq-default xs (pos 0) l) z
-
-le-of-leb : (a b : ℕ) → leb a b ≡ true → a ≤ b
-le-of-leb a b e = passed (le? a b) e
-
-eq-of-eqb : (a b : ℕ) → eqb a b ≡ true → a ≡ b
-eq-of-eqb a b e = passed (eq? a b) e
-
-pub between : (lo hi z : ℤ) → within lo hi z ≡ true → (lo ≤ℤ z) × (z ≤ℤ hi)
-between lo hi z e =
-    let a = and-true (leZ lo z) (leZ z hi) e in
-    (leZ-yes (rw (a .0) tt), leZ-yes (rw (a .1) tt))
-
-pub small : (k : ℕ) (z : ℤ) → within (negℤ (pos k)) (pos k) z ≡ true → natAbs z ≤ k
-small k z e =
-    let a = between (negℤ (pos k)) (pos k) z e in
-    omega (zarith, a .0, a .1, parts z, P-neg (pos k), N-neg (pos k))
 
 -- ---- 1 to 5
 problem-accepted : (P : Problem) → sizesInRange (P .m) (P .n) ≡ true → problemFits P ≡ true
     → moduliCheck P .fault ≡ none → entriesCheck P .fault ≡ none → AcceptedProblem P
 problem-accepted P sizes fits moduli entries =
-    let a = and-true (leb 1 (P .m) && leb (P .m) 8) (leb 1 (P .n) && leb (P .n) 16) sizes in
-    let rows = and-true (leb 1 (P .m)) (leb (P .m) 8) (a .0) in
-    let quantities = and-true (leb 1 (P .n)) (leb (P .n) 16) (a .1) in
-    let lengths = and-true (eqb (length (P .matrix)) (P .m * P .n)) (eqb (length (P .moduli)) (P .m)) fits in
+    let a = and-both (leb 1 (P .m) && leb (P .m) 8) (leb 1 (P .n) && leb (P .n) 16) sizes in
+    let rows = and-both (leb 1 (P .m)) (leb (P .m) 8) (a .0) in
+    let quantities = and-both (leb 1 (P .n)) (leb (P .n) 16) (a .1) in
+    let lengths = and-both (eqb (length (P .matrix)) (P .m * P .n)) (eqb (length (P .moduli)) (P .m)) fits in
     record {
       limited = record {
-        rows = le-of-leb (P .m) 8 (rows .1);
-        quantities = le-of-leb (P .n) 16 (quantities .1);
-        oneModulusEach = eq-of-eqb (length (P .moduli)) (P .m) (lengths .1);
+        rows = leb-true (P .m) 8 (rows .1);
+        quantities = leb-true (P .n) 16 (quantities .1);
+        oneModulusEach = eqb-true (length (P .moduli)) (P .m) (lengths .1);
         entries = λ i j a b. small 1000 (entry P i j) (none-out entryInRange refl (P .matrix) entries (i * P .n + j));
       };
-      someRow = le-of-leb 1 (P .m) (rows .0);
-      someQuantity = le-of-leb 1 (P .n) (quantities .0);
-      allEntries = eq-of-eqb (length (P .matrix)) (P .m * P .n) (lengths .0);
+      someRow = leb-true 1 (P .m) (rows .0);
+      someQuantity = leb-true 1 (P .n) (quantities .0);
+      allEntries = eqb-true (length (P .matrix)) (P .m * P .n) (lengths .0);
       moduliLow = λ i. in-range i .0;
       moduliHigh = λ i. in-range i .1;
     }
@@ -123,20 +107,20 @@ pub term-accepted : (P : Problem) (u : Run) (v : ℕ → ℤ) → termRefused P 
 unfolding passes
 term-accepted P u v e = (
   free-of-isFree P v (not-false (isFree P v) (a .0)),
-  λ g b. failed (lt? M (natAbs (translated P u v g))) (nowhere g (omega arith) b),
+  λ g b. failed (lt? M (natAbs (translated P u v g))) (nowhere g (omega arith)),
 )
   where
     big : ℕ → Bool
     big g = beyond (translated P u v g)
 
     a : (not (isFree P v) ≡ false) × (passes P u v ≡ false)
-    a = or-false (not (isFree P v)) (passes P u v) e
+    a = or-neither (not (isFree P v)) (passes P u v) e
 
     nowhere : Nowhere big 0 (d P u)
     nowhere = passed (none? big 0 (d P u)) (not-false (isNone (first big 0 (d P u))) (a .1))
 
 terms-accepted : (P : Problem) (u : Run) (f : Formula) → termsCheck P u f .fault ≡ none → (t : ℕ) → t < terms f → TermAccepted P u (term P f t)
-terms-accepted P u f e t h = term-accepted P u (term P f t) (nowhere-found bad (terms f) (go (first bad 0 (terms f)) e) t h)
+terms-accepted P u f e t h = term-accepted P u (term P f t) (first-nowhere bad 0 (terms f) (go (first bad 0 (terms f)) e) t (omega arith))
   where
     bad : ℕ → Bool
     bad t = termRefused P u (term P f t)
@@ -178,9 +162,9 @@ pub weigh-accepted : (P : Problem) (es : List ℤ) (outputs : Bool) → weighVer
 unfolding weighVerdict
 weigh-accepted P es outputs e =
     let a = checks-passed P (problemFits P && eqb (length es) (P .n)) outputs (exponentsCheck es ∷ []) e in
-    let fits = and-true (problemFits P) (eqb (length es) (P .n)) (a .inputsFit) in (
+    let fits = and-both (problemFits P) (eqb (length es) (P .n)) (a .inputsFit) in (
       a .problem (fits .0),
-      eq-of-eqb (length es) (P .n) (fits .1),
+      eqb-true (length es) (P .n) (fits .1),
       λ j b. exponents-small es (a .others .0) j,
     )
 
@@ -190,13 +174,13 @@ unfolding translateVerdict
 translate-accepted P f outputs e =
     let more = exponentsCheck (f .exponents) ∷ rangeCheck (run P) ∷ termsCheck P (run P) f ∷ [] in
     let a = checks-passed P (problemFits P && formulaFits P f) outputs more e in
-    let fits = and-true (problemFits P) (formulaFits P f) (a .inputsFit) in
-    let lengths = and-true (eqb (length (f .exponents)) (terms f * P .n)) (leb (terms f) mostTerms) (fits .1) in
+    let fits = and-both (problemFits P) (formulaFits P f) (a .inputsFit) in
+    let lengths = and-both (eqb (length (f .exponents)) (terms f * P .n)) (leb (terms f) mostTerms) (fits .1) in
     let each = terms-accepted P (run P) f (a .others .1 .1 .0) in (
       a .problem (fits .0),
       record {
-        fewTerms = le-of-leb (terms f) mostTerms (lengths .1);
-        allExponents = eq-of-eqb (length (f .exponents)) (terms f * P .n) (lengths .0);
+        fewTerms = leb-true (terms f) mostTerms (lengths .1);
+        allExponents = eqb-true (length (f .exponents)) (terms f * P .n) (lengths .0);
         exponents = λ t j b. exponents-small (f .exponents) (a .others .0) (t * P .n + j);
         free = λ t h. each t h .0;
         within = λ t g h b. each t h .1 g b;

@@ -10,8 +10,8 @@ use Rattle.rules.specs.Forms.{Normal, Right}
 use Rattle.rules.specs.Stages
 use Rattle.rules.specs.Stages.{Run, run}
 use Rattle.rules.specs.Calls.{grid, contentsH, contentsV, contentsW}
-use Rattle.theory.proofs.MoreLists.{table, grid-cong, grid-of-table}
 use Rattle.theory.proofs.Unique.{normal-unique}
+use Rattle.theory.proofs.Grid.{table, grid-cong, grid-of-table}
 
 -- ---- two right answers, written row after row
 pub record AlikeLists (m N r r′ : ℕ) (H H′ U U′ W W′ : Matrix) : Type 0 where

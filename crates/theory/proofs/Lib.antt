@@ -20,12 +20,9 @@
 --    takes few steps.
 --      Sizes.add-size, .row-begun-size, .translated-begun-fits, .room-for-H and its like; RunRange.run-entries; RunBound.run-bound
 
--- ---- tests, numbers, lists and searches, beyond what `whole` has
-pub mod ExtraTests
-pub mod MoreTests
-pub mod MoreNumbers
-pub mod MoreLists
-pub mod MoreSearch
+-- ---- the tests of rules' Limits, grids of numbers, and the searches
+pub mod Limits
+pub mod Grid
 pub mod Search
 -- ---- 1: the state after each step and after the reordering, and sequences of steps
 pub mod StepLines

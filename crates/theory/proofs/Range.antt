@@ -7,11 +7,10 @@ use native.Mathlib.Omega.{arith}
 use lib.ListN.{length, List·getD-eq-default}
 use lib.IntN.{ℤ, negℤ, natAbs}
 use Rattle.whole.specs.Lists.{nth}
-use Rattle.whole.proofs.Tests.{Test, pass, fail, lt?, is-false}
+use Rattle.whole.proofs.Tests.{Test, pass, fail, lt?, is-false, failed, or-neither}
 use Rattle.whole.proofs.Order.{abs-neg}
 use Rattle.rules.specs.Limits.{M, beyond}
 use Rattle.rules.specs.Steps.{Line, State, blank, line, Table, onT, onV, get, getW, anyBeyond, values, swapStep, negated, negateStep, source, target, addStep, reorder}
-use Rattle.theory.proofs.ExtraTests.{failed, or-false-left, or-false-right}
 use Rattle.theory.proofs.StepLines.{count, swap-flag, negate-flag}
 use Rattle.theory.proofs.Moves.{Move, swap, negate, add, move-count}
 use Rattle.theory.proofs.Reorder.{reorder-count}
@@ -21,10 +20,10 @@ use Rattle.theory.proofs.Flag.{anyBeyond-append, move-flag}
 
 -- ---- lists
 append-left : (xs ys : List ℤ) → anyBeyond (xs ++ ys) ≡ false → anyBeyond xs ≡ false
-append-left xs ys e = or-false-left (anyBeyond xs) (anyBeyond ys) (sym (anyBeyond-append xs ys) ∙ e)
+append-left xs ys e = or-neither (anyBeyond xs) (anyBeyond ys) (sym (anyBeyond-append xs ys) ∙ e) .0
 
 append-right : (xs ys : List ℤ) → anyBeyond (xs ++ ys) ≡ false → anyBeyond ys ≡ false
-append-right xs ys e = or-false-right (anyBeyond xs) (anyBeyond ys) (sym (anyBeyond-append xs ys) ∙ e)
+append-right xs ys e = or-neither (anyBeyond xs) (anyBeyond ys) (sym (anyBeyond-append xs ys) ∙ e) .1
 
 append-none : (xs ys : List ℤ) → anyBeyond xs ≡ false → anyBeyond ys ≡ false → anyBeyond (xs ++ ys) ≡ false
 append-none xs ys e f = anyBeyond-append xs ys ∙ rw (e, f)
@@ -35,8 +34,8 @@ none-beyond (x ∷ xs) h = rw (is-false (lt? M (natAbs x)) (λ k. omega (arith, 
 
 pub beyond-none : (xs : List ℤ) → anyBeyond xs ≡ false → (i : ℕ) → natAbs (nth xs i) ≤ M
 beyond-none [] e i = omega arith
-beyond-none (x ∷ xs) e zero = failed (lt? M (natAbs x)) (or-false-left (beyond x) (anyBeyond xs) e)
-beyond-none (x ∷ xs) e (suc i) = beyond-none xs (or-false-right (beyond x) (anyBeyond xs) e) i
+beyond-none (x ∷ xs) e zero = failed (lt? M (natAbs x)) (or-neither (beyond x) (anyBeyond xs) e .0)
+beyond-none (x ∷ xs) e (suc i) = beyond-none xs (or-neither (beyond x) (anyBeyond xs) e .1) i
 
 beyond-negated : (xs : List ℤ) → anyBeyond (map negℤ xs) ≡ anyBeyond xs
 beyond-negated [] = refl
@@ -79,10 +78,10 @@ pub record Fine (n : ℕ) (u : State) : Type 0 where
 -- what a step says of the state before it, and of what it wrote, if the flag is not set after it
 module _ {n lo a : ℕ} {u w : State} (m : Move n lo a u w) (e : w .over ≡ false) where
   not-before : u .over ≡ false
-  not-before = or-false-left (u .over) (anyBeyond (writtenBy m)) (sym (move-flag m) ∙ e)
+  not-before = or-neither (u .over) (anyBeyond (writtenBy m)) (sym (move-flag m) ∙ e) .0
 
   not-written : anyBeyond (writtenBy m) ≡ false
-  not-written = or-false-right (u .over) (anyBeyond (writtenBy m)) (sym (move-flag m) ∙ e)
+  not-written = or-neither (u .over) (anyBeyond (writtenBy m)) (sym (move-flag m) ∙ e) .1
 
   lines-before : Fine n u → Every n Near u
   lines-before h = record { lines = h .lines; all = h .near not-before }

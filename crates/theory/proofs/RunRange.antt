@@ -8,7 +8,6 @@ use native.Mathlib.Omega.{arith}
 use lib.Dec.{eqb}
 use lib.ListN.{length, getD, replicate, List·getD-append, length-append}
 use lib.IntN.{ℤ, pos, negℤ, natAbs}
-use lib.Signed.{_≤ℤ_, leZ, leZ-yes}
 use Rattle.whole.specs.Lists.{tab}
 use Rattle.whole.proofs.Tests.{Test, pass, fail, lt?, eq?}
 use Rattle.whole.proofs.Order.{zarith, parts, abs-is, abs-neg}
@@ -17,7 +16,7 @@ use Rattle.rules.specs.Limits.{M, within, entryInRange, modulusInRange}
 use Rattle.rules.specs.Problem.{Problem, entry, modulus, N, modulusRows, modulusColumn, modulusColumns, quantityColumns, columns}
 use Rattle.rules.specs.Steps.{Table, get, getW, anyBeyond, unit, start}
 use Rattle.rules.specs.Stages.{run}
-use Rattle.theory.proofs.ExtraTests.{and-true-left, and-true-right}
+use Rattle.theory.proofs.Limits.{between}
 use Rattle.theory.proofs.Lines.{Shape}
 use Rattle.theory.proofs.Start.{start-count, start-line, start-shape}
 use Rattle.theory.proofs.Sequence.{steps-shape}
@@ -99,9 +98,8 @@ pub record InLimits (P : Problem) : Type 0 where
 
 within-small : (lo hi z : ℤ) → natAbs lo ≤ M → natAbs hi ≤ M → within lo hi z ≡ true → natAbs z ≤ M
 within-small lo hi z l h e =
-    let x : lo ≤ℤ z = leZ-yes (rw (and-true-left (leZ lo z) (leZ z hi) e) tt) in
-    let y : z ≤ℤ hi = leZ-yes (rw (and-true-right (leZ lo z) (leZ z hi) e) tt) in
-    omega (zarith, parts z, abs-is lo, abs-is hi)
+    let a = between lo hi z e in
+    omega (zarith, a .0, a .1, parts z, abs-is lo, abs-is hi)
 
 pub limits-moderate : (P : Problem) → InLimits P → Moderate P
 limits-moderate P h = record {

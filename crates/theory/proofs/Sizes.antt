@@ -6,20 +6,20 @@ use native.Mathlib.Decide.{decLt}
 use lib.ListN.{length}
 use lib.IntN.{ℤ, natAbs, _+ℤ_, _*ℤ_}
 use Rattle.whole.specs.Sum.{sum}
-use Rattle.whole.proofs.Order.{abs-add}
+use Rattle.whole.proofs.Order.{abs-add, product-size}
 use Rattle.whole.proofs.Division.{quot-le}
 use Rattle.whole.proofs.Lists.{length-tab}
+use Rattle.whole.proofs.Sum.{products-size}
 use Rattle.rules.specs.Limits.{M, mostTerms, roomH, roomV, roomW, roomWeights, roomExponents}
 use Rattle.rules.specs.Problem.{Problem, entry, modulus, s, N}
 use Rattle.rules.specs.Stages.{Run, run, H, U, W}
 use Rattle.rules.specs.Formulas.{rowTimes, weight, kOf, kAnd, d, translated, Formula, terms, term}
 use Rattle.rules.specs.Calls.{contentsH, contentsV, contentsW, weights, translatedExponents}
-use Rattle.theory.proofs.MoreNumbers.{product-size, products-size}
-use Rattle.theory.proofs.MoreLists.{grid-size}
 use Rattle.theory.proofs.ModulusRows.{modulusRow, modulus-row-within, s-le-m}
 use Rattle.theory.proofs.Answers.{RightRun}
 use Rattle.theory.proofs.Groups.{d-le-n}
 use Rattle.theory.proofs.Weights.{kAnd-first, kAnd-rest}
+use Rattle.theory.proofs.Grid.{grid-size}
 
 -- one entry of an add step, for any values of 32 bits
 pub add-size : (x q y : ℤ) → natAbs x ≤ suc M → natAbs q ≤ suc M → natAbs y ≤ suc M → natAbs (x +ℤ q *ℤ y) < 2 ^ 63

@@ -3,7 +3,7 @@ use mathlib.Core.Path.{_≡_, refl, sym, _∙_, ap}
 use mathlib.Core.Bool.{Bool, cond}
 use Prim.Native.Nat.{ℕ, zero, suc, _*_, _/_, _%_, _≤_, _<_}
 use native.Mathlib.Omega.{arith}
-use native.Mathlib.Nat.{div-add-mod', mod-lt, mod-le, div-le-self}
+use native.Mathlib.Nat.{div-add-mod', mod-lt, mod-le, div-le-self, mul-mod-left}
 use lib.IntN.{ℤ, pos, negsuc, negℤ, natAbs, _+ℤ_, _*ℤ_, _-ℤ_, +ℤ-idr, negℤ-negℤ}
 use lib.Signed.{_≤ℤ_, _<ℤ_, quotZ, remZ, ltZ}
 use Rattle.whole.specs.Division.{floorZ}
@@ -48,6 +48,12 @@ rem-le a b = rw (abs-rem a b) (mod-le (natAbs a) (natAbs b))
 
 pub rem-lt : (a b : ℤ) → 0 < natAbs b → natAbs (remZ a b) < natAbs b
 rem-lt a b h = rw (abs-rem a b) (mod-lt (natAbs a) h)
+
+-- a multiple of b leaves none by b
+pub multiple-rem : (q b : ℤ) → remZ (q *ℤ b) b ≡ pos 0
+multiple-rem q b =
+    natAbs-zero (remZ (q *ℤ b) b)
+    (abs-rem (q *ℤ b) b ∙ ap (λ (z : ℕ). z % natAbs b) (abs-mul q b) ∙ mul-mod-left (natAbs q) (natAbs b))
 
 -- with the quotient as a variable q, so that it can be split into 0, which b ≤ a excludes, and the rest
 mod-half : (a b q : ℕ) → q ≡ a / b → 0 < b → b ≤ a → 2 * (a % b) < a

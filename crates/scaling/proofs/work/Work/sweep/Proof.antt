@@ -7,7 +7,7 @@ use mir.Val.{toZ, ofZ}
 use mir.Facts.{toZ-ofZ}
 use Rattle.theory.proofs.Search.{Smallest}
 use Rattle.scaling.specs.Rows.{sizesIn}
-use Rattle.scaling.proofs.Hits.{smallest-there}
+use Rattle.theory.proofs.Search.{smallest-there}
 use Rattle.scaling.proofs.TableRow.{RowIn, row-of-table, row-short}
 use Rattle.scaling.proofs.Repeating.{begun-done, begun-divides, begun-ready}
 use Rattle.scaling.proofs.work.Work.sweep.Statement.{statement}
