@@ -13,22 +13,21 @@ use Rattle.whole.proofs.Tests.{and-both}
 use Rattle.rules.specs.Bytes.{bytesOf, wholeNumbers}
 use Rattle.rules.specs.Limits.{sizesInRange}
 use Rattle.rules.specs.Search.{first}
-use Rattle.rules.specs.Problem.{Problem}
+use Rattle.rules.specs.Problem.{Problem, WellFormed}
 use Rattle.rules.specs.Stages.{run}
-use Rattle.rules.specs.Formulas.{Formula, d, terms, term, translated}
+use Rattle.rules.specs.Formulas.{Formula, d, terms, term, translated, WellFormedFormula}
 use Rattle.rules.specs.Calls.{Check, Verdict, taken, refused, translateVerdict, translateReply, translateOf, translatedTo, problemFits, formulaFits}
 use Rattle.rules.specs.Calls.{moduliCheck, entriesCheck, exponentsCheck, rangeCheck, termsCheck, termRefused, lentAfter, filled, translatedExponents}
 use Rattle.rules.specs.Bench.{problemOf, hasRoom, benchTranslateVerdict, benchTranslateOf, BenchTranslated}
 use Rattle.rules.specs.Bench as bench
 use Rattle.theory.proofs.Run.{run-right}
 use Rattle.theory.proofs.Sizes.{room-for-exponents}
-use Rattle.theory.proofs.Accepted.{AcceptedProblem, AcceptedFormula, translate-accepted}
+use Rattle.theory.proofs.Accepted.{sizes-passed, translate-accepted}
 use Rattle.theory.proofs.Grid.{length-grid}
 use Rattle.scaling.specs.declared.TranslateAnswer.{TranslateAnswer}
 use Rattle.scaling.specs.Checks.{given}
 use Rattle.scaling.specs.Answers as scaling
 use Rattle.scaling.specs.Answers.{formulaOf}
-use Rattle.scaling.proofs.Verdicts.{sizes-passed}
 use Rattle.bench.specs.Answers.{Translates}
 use Rattle.bench.proofs.Verdicts.{bool-same, verdicts-agree, first-passed, refusal-not-0, terms-numbered}
 use Rattle.bench.proofs.Inputs.{Reads, problem-heard, problem-read, formula-heard, formula-read}
@@ -163,17 +162,17 @@ module _ {m n : ℕ} {matrix moduli cs es kept out : List ℕ} {a p c e x y : Li
             ),
           ) number place e (sym (B .number) ∙ h))
 
-  taken-writes : scaling.Translates (translatedTo P f x y taken) r x₁ y₁ → count ≡ terms f → AcceptedProblem P → AcceptedFormula P f
+  taken-writes : scaling.Translates (translatedTo P f x y taken) r x₁ y₁ → count ≡ terms f → WellFormed P → WellFormedFormula P f
       → outputs ≡ true → benchTranslateVerdict m n matrix moduli cs es kept out ≡ taken → Taken m n matrix moduli cs es kept out count r x₁ y₁
   unfolding benchTranslateOf translatedExponents
-  taken-writes B k A F o e =
+  taken-writes B k G F o e =
       let t = and-both (hasRoom 64 kept) (hasRoom 1024 out) o in
       let l : length (translatedExponents P f) ≡ count * r .d
       = length-grid (terms f) (d P (run P)) (λ t g. translated P (run P) (term P f t) g) ∙ ap₂ (λ (i j : ℕ). i * j) (sym k) (sym (B .d)) in
       record {
-        written-kept = filled-written kept 64 count x₁ (f .coefficients) x (t .0) (sym k) (F .fewTerms) (B .kept);
+        written-kept = filled-written kept 64 count x₁ (f .coefficients) x (t .0) (sym k) (F .few) (B .kept);
         written-translated = filled-written out 1024 (count * r .d) y₁ (translatedExponents P f) y (t .1) l
-            (room-for-exponents P (A .limited) (run-right P) f (F .fewTerms)) (B .translated);
+            (room-for-exponents P G (run-right P) f (F .few)) (B .translated);
         translates = rw e (record { number = B .number; place = B .place; d = B .d; kept = refl; translated = refl });
       }
 

@@ -9,12 +9,12 @@ use lib.ListN.{length}
 use lib.IntN.{ℤ}
 use borrow.Author.Tests.{leb-true}
 use Rattle.rules.specs.Limits.{roomH, roomV, roomW}
-use Rattle.rules.specs.Problem.{Problem}
+use Rattle.rules.specs.Problem.{Problem, WellFormed}
 use Rattle.rules.specs.Stages.{run}
 use Rattle.rules.specs.Calls.{Check, verdict, rangeCheck, problemFits, buildVerdict, buildOf, built}
 use Rattle.whole.proofs.Tests.{and-both}
 use Rattle.scaling.specs.declared.BuildAnswer.{BuildAnswer}
-use Rattle.scaling.specs.Problem.{problemOf, WellFormed}
+use Rattle.scaling.specs.Problem.{problemOf}
 use Rattle.scaling.specs.Checks.{Says, given, problemChecks}
 use Rattle.scaling.specs.Answers.{Builds, RoomToBuild}
 use Rattle.scaling.proofs.Verdicts.{goes-on, stays, says-taken, says-refused, Passed, problem-passed}

@@ -13,8 +13,9 @@ use Rattle.whole.proofs.Tests.{and-both}
 use Rattle.rules.specs.Limits.{sizesInRange}
 use Rattle.rules.specs.Problem.{Problem}
 use Rattle.rules.specs.Calls.{Check, verdict, unless, problemFits, sizesCheck, inputsCheck, outputsCheck, moduliCheck, entriesCheck}
+use Rattle.theory.proofs.Accepted.{sizes-passed, lengths-passed}
 use Rattle.scaling.specs.Checks.{Says, takes, given}
-use Rattle.scaling.proofs.Verdicts.{refuses-here, says-next, sizes-passed, lengths-passed}
+use Rattle.scaling.proofs.Verdicts.{refuses-here, says-next}
 use Rattle.scaling.proofs.checks.problem.Statement.{statement}
 use Rattle.scaling.proofs.checks.problem.Tie as tie
 
