@@ -19,12 +19,13 @@ use Rattle.rules.specs.Calls.{moduliCheck, entriesCheck, rangeCheck, lentAfter,
 use Rattle.rules.specs.Bench.{problemOf, hasRoom, benchBuildVerdict, benchBuildOf, BenchBuilt}
 use Rattle.theory.proofs.Sizes.{N-le-24, room-for-H, room-for-V, room-for-W}
 use Rattle.theory.proofs.Accepted.{sizes-passed, build-accepted}
+use Rattle.theory.proofs.Refusals.{build-not-0}
 use Rattle.theory.proofs.Grid.{length-grid}
 use Rattle.scaling.specs.declared.BuildAnswer.{BuildAnswer}
 use Rattle.scaling.specs.Checks.{given}
 use Rattle.scaling.specs.Answers as scaling
 use Rattle.bench.specs.Answers.{Builds}
-use Rattle.bench.proofs.Verdicts.{bool-same, verdicts-agree, first-passed, refusal-not-0}
+use Rattle.bench.proofs.Verdicts.{bool-same, verdicts-agree, first-passed}
 use Rattle.bench.proofs.Inputs.{Reads, problem-heard, problem-read}
 use Rattle.bench.proofs.Outputs.{Lent, Written, filled-written}
 
@@ -126,9 +127,7 @@ module _ {m n : ℕ} {matrix moduli h v w : List ℕ} {a p x y z : List ℤ} {r 
       go : (u : Verdict) → scaling.Builds (built P′ x y z u) r x₁ y₁ z₁ → buildVerdict P′ (problemFits P′) outputs′ ≡ u → u ≡ taken
       go taken B e = refl
       go (refused number place) B e =
-          absurd (refusal-not-0 (sizesInRange m n) (problemFits P′) outputs′ (later P′)
-          (λ q f z. omega arith, (λ q f z. omega arith, (λ q f z. omega arith, tt)))
-          number place e (sym (B .number) ∙ d))
+          absurd (build-not-0 P′ (problemFits P′) outputs′ number place e (sym (B .number) ∙ d))
 
   taken-writes : scaling.Builds (built P x y z taken) r x₁ y₁ z₁ → WellFormed P → outputs ≡ true
       → benchBuildVerdict m n matrix moduli h v w ≡ taken → Taken m n matrix moduli h v w r x₁ y₁ z₁

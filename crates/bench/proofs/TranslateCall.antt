@@ -5,31 +5,30 @@ use mathlib.Core.Logic.{_≢_}
 use mathlib.Core.Bool.{Bool, true, _&&_}
 use mathlib.Core.List.{List, [], _∷_}
 use Prim.Native.Nat.{ℕ, _*_}
-use native.Mathlib.Omega.{arith}
 use lib.Dec.{leb}
 use lib.ListN.{length}
 use lib.IntN.{ℤ}
 use Rattle.whole.proofs.Tests.{and-both}
 use Rattle.rules.specs.Bytes.{bytesOf, wholeNumbers}
 use Rattle.rules.specs.Limits.{sizesInRange}
-use Rattle.rules.specs.Search.{first}
 use Rattle.rules.specs.Problem.{Problem, WellFormed}
 use Rattle.rules.specs.Stages.{run}
 use Rattle.rules.specs.Formulas.{Formula, d, terms, term, translated, WellFormedFormula}
 use Rattle.rules.specs.Calls.{Check, Verdict, taken, refused, translateVerdict, translateReply, translateOf, translatedTo, problemFits, formulaFits}
-use Rattle.rules.specs.Calls.{moduliCheck, entriesCheck, exponentsCheck, rangeCheck, termsCheck, termRefused, lentAfter, filled, translatedExponents}
+use Rattle.rules.specs.Calls.{moduliCheck, entriesCheck, exponentsCheck, rangeCheck, termsCheck, lentAfter, filled, translatedExponents}
 use Rattle.rules.specs.Bench.{problemOf, hasRoom, benchTranslateVerdict, benchTranslateOf, BenchTranslated}
 use Rattle.rules.specs.Bench as bench
 use Rattle.theory.proofs.Run.{run-right}
 use Rattle.theory.proofs.Sizes.{room-for-exponents}
 use Rattle.theory.proofs.Accepted.{sizes-passed, translate-accepted}
+use Rattle.theory.proofs.Refusals.{translate-not-0}
 use Rattle.theory.proofs.Grid.{length-grid}
 use Rattle.scaling.specs.declared.TranslateAnswer.{TranslateAnswer}
 use Rattle.scaling.specs.Checks.{given}
 use Rattle.scaling.specs.Answers as scaling
 use Rattle.scaling.specs.Answers.{formulaOf}
 use Rattle.bench.specs.Answers.{Translates}
-use Rattle.bench.proofs.Verdicts.{bool-same, verdicts-agree, first-passed, refusal-not-0, terms-numbered}
+use Rattle.bench.proofs.Verdicts.{bool-same, verdicts-agree, first-passed}
 use Rattle.bench.proofs.Inputs.{Reads, problem-heard, problem-read, formula-heard, formula-read}
 use Rattle.bench.proofs.Outputs.{Lent, Written, filled-written}
 
@@ -148,19 +147,7 @@ module _ {m n : ℕ} {matrix moduli cs es kept out : List ℕ} {a p c e x y : Li
       go : (u : Verdict) → scaling.Translates (translatedTo P′ f′ x y u) r x₁ y₁ → translateVerdict P′ f′ inputs′ outputs′ ≡ u → u ≡ taken
       go taken B e = refl
       go (refused number place) B e =
-          absurd (refusal-not-0 (sizesInRange m n) inputs′ outputs′ (later P′ f′) (
-            λ q i z. omega arith,
-            (
-              λ q i z. omega arith,
-              (
-                λ q i z. omega arith,
-                (
-                  λ q i z. omega arith,
-                  (terms-numbered P′ f′ (first (λ t. termRefused P′ (run P′) (term P′ f′ t)) 0 (terms f′)), tt),
-                ),
-              ),
-            ),
-          ) number place e (sym (B .number) ∙ h))
+          absurd (translate-not-0 P′ inputs′ outputs′ f′ number place e (sym (B .number) ∙ h))
 
   taken-writes : scaling.Translates (translatedTo P f x y taken) r x₁ y₁ → count ≡ terms f → WellFormed P → WellFormedFormula P f
       → outputs ≡ true → benchTranslateVerdict m n matrix moduli cs es kept out ≡ taken → Taken m n matrix moduli cs es kept out count r x₁ y₁

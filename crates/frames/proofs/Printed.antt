@@ -12,8 +12,9 @@ use lib.IntN.{ℤ, pos}
 use mir.Syntax.{w32}
 use mir.Val.{ofZ}
 use Rattle.rules.specs.Calls.{filled}
-use Rattle.rules.specs.Bytes.{byte, fourBytes, bytesOf}
+use Rattle.rules.specs.Bytes.{byte, bytesOf}
 use Rattle.rules.specs.Frames.{digitOf, hex, frame, rowLines, termLines}
+use Rattle.theory.proofs.Bytes.{length-bytes, bytes-append}
 use Rattle.frames.specs.Output.{Wrote, rowText, termText}
 use Rattle.frames.proofs.Writes.{hex-append, wrote-both, wrote-hex, wrote-length, wrote-two}
 
@@ -45,26 +46,17 @@ unfolding frame
 frame-length bs = length-append (hex bs) (10 ∷ []) ∙ omega (arith, hex-length bs)
 
 -- ---- numbers
-bytes-length : (zs : List ℤ) → length (bytesOf zs) ≡ 4 * length zs
-unfolding bytesOf
-bytes-length [] = refl
-bytes-length (z ∷ zs) = let i = bytes-length zs in omega arith
 
 pub number-bytes : (z : ℤ) (x a b c d : ℕ) → x ≡ ofZ w32 z → a ≡ x / 16777216 % 256 → b ≡ x / 65536 % 256 → c ≡ x / 256 % 256 → d ≡ x % 256 → a ∷ b ∷ c ∷ d ∷ [] ≡ bytesOf (z ∷ [])
 unfolding bytesOf
 number-bytes z x a b c d e f g h i = rw (f, g, h, i, e)
-
-bytes-append : (xs ys : List ℤ) → bytesOf (xs ++ ys) ≡ bytesOf xs ++ bytesOf ys
-unfolding bytesOf
-bytes-append [] ys = refl
-bytes-append (x ∷ xs) ys = ap (λ (bs : List ℕ). fourBytes (ofZ w32 x) ++ bs) (bytes-append xs ys)
 
 part-length : (zs : List ℤ) (from k : ℕ) → from + k ≤ length zs → length (take k (drop from zs)) ≡ k
 part-length zs from k h = length-take-le k (drop from zs) (omega (arith, length-drop from zs))
 
 pub digits-length : (zs : List ℤ) (from k : ℕ) → from + k ≤ length zs → length (hex (bytesOf (take k (drop from zs)))) ≡ 8 * k
 digits-length zs from k h =
-    omega (arith, hex-length (bytesOf (take k (drop from zs))), bytes-length (take k (drop from zs)), part-length zs from k h)
+    omega (arith, hex-length (bytesOf (take k (drop from zs))), length-bytes (take k (drop from zs)), part-length zs from k h)
 
 -- one number more
 module _ {d e : List ℕ} {at p : ℕ} (zs : List ℤ) (from k count : ℕ) (h : k < count) (l : from + count ≤ length zs) (room : at + 8 * count ≤ length d)
@@ -81,7 +73,7 @@ module _ {d e : List ℕ} {at p : ℕ} (zs : List ℤ) (from k count : ℕ) (h :
       let n : k < length (drop from zs) = omega (arith, length-drop from zs) in
       let t : bytesOf (take (k + 1) (drop from zs)) ≡ bytesOf (take k (drop from zs)) ++ bytesOf (z ∷ [])
       = ap bytesOf (rw (add-one, g, ← getD-drop) (take-suc (drop from zs) k (pos 0) n)) ∙ bytes-append (take k (drop from zs)) (z ∷ []) in
-      rw t (wrote-hex (bytesOf (take k (drop from zs))) (bytesOf (z ∷ [])) x y (omega (arith, digits-length zs from k (omega arith), hex-length (bytesOf (z ∷ [])), bytes-length (z ∷ []))))
+      rw t (wrote-hex (bytesOf (take k (drop from zs))) (bytesOf (z ∷ [])) x y (omega (arith, digits-length zs from k (omega arith), hex-length (bytesOf (z ∷ [])), length-bytes (z ∷ []))))
 
 -- a row after i of count rows
 step-room : (i n count : ℕ) → i < count → i * n + n ≤ count * n
@@ -91,7 +83,7 @@ step-room i n count h = subst (λ (x : ℕ). x ≤ count * n) (suc-mul i n) (mul
 row-length : (kind width : ℕ) (zs : List ℤ) (from : ℕ) → from + width ≤ length zs → length (rowText kind (take width (drop from zs))) ≡ 3 + 8 * width
 unfolding rowText
 row-length kind width zs from h =
-    frame-length (byte kind ++ bytesOf (take width (drop from zs))) ∙ omega (arith, bytes-length (take width (drop from zs)), part-length zs from width h)
+    frame-length (byte kind ++ bytesOf (take width (drop from zs))) ∙ omega (arith, length-bytes (take width (drop from zs)), part-length zs from width h)
 
 rows-more : (kind i width : ℕ) (zs : List ℤ) → rowLines kind (suc i) width zs ≡ rowLines kind i width zs ++ rowText kind (take width (drop (i * width) zs))
 unfolding rowLines rowText
@@ -135,7 +127,7 @@ module _ {d e : List ℕ} {at p : ℕ} (kind i count width : ℕ) (zs : List ℤ
 term-length : (z : ℤ) (d : ℕ) (es : List ℤ) (from : ℕ) → from + d ≤ length es → length (termText z (take d (drop from es))) ≡ 11 + 8 * d
 unfolding termText
 term-length z d es from h =
-    frame-length (byte 0x85 ++ bytesOf (z ∷ take d (drop from es))) ∙ omega (arith, bytes-length (z ∷ take d (drop from es)), part-length es from d h)
+    frame-length (byte 0x85 ++ bytesOf (z ∷ take d (drop from es))) ∙ omega (arith, length-bytes (z ∷ take d (drop from es)), part-length es from d h)
 
 terms-more : (d : ℕ) (cs : List ℤ) (z : ℤ) (es : List ℤ) → termLines d (cs ++ z ∷ []) es ≡ termLines d cs es ++ termText z (take d (drop (length cs * d) es))
 unfolding termLines termText

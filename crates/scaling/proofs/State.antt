@@ -3,7 +3,7 @@ use mathlib.Core.Path.{_≡_, refl, ap, sym, _∙_}
 use mathlib.Core.Bool.{Bool, true, false, _||_}
 use mathlib.Core.List.{List, _++_}
 use Prim.Native.Nat.{ℕ, zero, suc, _+_, _*_, _<_, _≤_}
-use native.Mathlib.Nat.{mul-le-mul, le-refl, suc-mul, add-zero}
+use native.Mathlib.Nat.{mul-le-mul, add-zero}
 use native.Mathlib.Omega.{arith}
 use lib.ListN.{length, getD}
 use lib.Seq.{ext-getD}
@@ -122,11 +122,3 @@ module _ {m n : ℕ} {s : Work} (f : Fine m n s) (long : Long s) where
 
   pub w-in : (c : ℕ) → c < n → Within (s .w) (c * n) 1 n
   w-in c h = record { each = λ k l. omega (arith, w-room, cell {j = k} {n = n} {k = c} {m = n} l h) }
-
-  -- a row of the table that a stage looks at
-  pub row-in : (stage2 : Bool) (r : ℕ) → r < heightFor stage2 m n → n + r * n ≤ length (entriesFor stage2 (s .t) (s .v))
-  row-in true r h = omega (arith, v-room, suc-mul r n, mul-le-mul {n₁ = suc r} {m₁ = n} h (le-refl n))
-  row-in false r h = omega (arith, t-room, suc-mul r n, mul-le-mul {n₁ = suc r} {m₁ = n} h (le-refl n))
-
-  pub place-in : (stage2 : Bool) (r c : ℕ) → r < heightFor stage2 m n → c < n → c + r * n < length (entriesFor stage2 (s .t) (s .v))
-  place-in stage2 r c h l = omega (arith, row-in stage2 r h)

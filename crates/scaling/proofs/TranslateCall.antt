@@ -8,6 +8,7 @@ use native.Mathlib.Nat.{mul-le-mul}
 use native.Mathlib.Omega.{arith}
 use lib.Dec.{leb, eqb}
 use lib.ListN.{length, take}
+use lib.Seq.{take-all}
 use lib.IntN.{ℤ}
 use borrow.Author.Tests.{leb-true}
 use Rattle.whole.proofs.Tests.{and-both}
@@ -27,10 +28,6 @@ use Rattle.scaling.proofs.Verdicts.{goes-on, stays, says-taken, says-re
 use Rattle.scaling.proofs.Verdicts.{Answered, six, refused-before, passed, refused-at-6, past-6}
 use Rattle.scaling.proofs.Building.{range-refused, range-taken}
 
-take-whole : (l : List ℤ) → take (length l) l ≡ l
-take-whole [] = refl
-take-whole (x ∷ xs) = ap (λ l. x ∷ l) (take-whole xs)
-
 -- ---- from a verdict
 module _ (P : Problem) (f : Formula) (ks ts : List ℤ) {x : Verdict} where
   pub refuses : {number place : ℕ} → x ≡ refused number place
@@ -44,7 +41,7 @@ module _ (P : Problem) (f : Formula) (ks ts : List ℤ) {x : Verdict} where
     number = refl;
     place = refl;
     d = g;
-    kept = k ∙ ap (λ l. filled l ks) (take-whole (f .coefficients));
+    kept = k ∙ ap (λ l. filled l ks) (take-all (terms f) (f .coefficients) (omega arith));
     translated = t;
   })
 

@@ -14,6 +14,7 @@ use mir.Facts.{toZ-ofZ}
 use borrow.Author.Tests.{ltb-true, ltb-false, lt-ltb, le-ltb, ne-eqb}
 use Rattle.whole.specs.Division.{floorZ}
 use Rattle.whole.proofs.Order.{zarith, -is, fits, fits-abs, abs-neg, abs-add, abs-sub, abs-mul}
+use Rattle.whole.proofs.Signs.{less-pos, less-neg}
 use Rattle.whole.proofs.Division.{quot-le}
 use Rattle.rules.specs.Limits.{M, isZero, beyond}
 use Rattle.scaling.specs.Flat.{keep}
@@ -123,15 +124,9 @@ pos-nonneg (pos n) e = tt
 pos-nonneg (negsuc n) e = absurd (false≢true (sym e))
 
 -- ---- the floored quotient
-below : (k : ℕ) → negsuc 0 -ℤ pos k ≡ negsuc k
-below k = omega (zarith, -is (negsuc 0) (pos k))
-
-above : (k : ℕ) → negsuc 0 -ℤ negsuc k ≡ pos k
-above k = omega (zarith, -is (negsuc 0) (negsuc k))
-
 pub floor-neg-pos : (a b : ℤ) → pos 0 <ℤ b → a <ℤ pos 0 → negsuc 0 -ℤ quotZ (negsuc 0 -ℤ a) b ≡ floorZ a b
 floor-neg-pos (pos a) b h l = absurd (omega zarith)
-floor-neg-pos (negsuc a) (pos b) h l = rw (above a) (below (a / b))
+floor-neg-pos (negsuc a) (pos b) h l = rw (less-neg a) (less-pos (a / b))
 floor-neg-pos (negsuc a) (negsuc b) h l = absurd (omega zarith)
 
 pub floor-pos-pos : (a b : ℤ) → pos 0 <ℤ b → pos 0 ≤ℤ a → quotZ a b ≡ floorZ a b
@@ -144,7 +139,7 @@ floor-pos-neg a (pos b) h l = absurd (omega zarith)
 floor-pos-neg (pos zero) (negsuc b) h l = absurd (omega zarith)
 floor-pos-neg (pos (suc a)) (negsuc b) h l =
     let e : pos (suc a) -ℤ pos 1 ≡ pos a = omega (zarith, -is (pos (suc a)) (pos 1)) in
-    ap (λ (z : ℤ). negsuc 0 -ℤ quotZ z (pos (suc b))) e ∙ below (a / suc b)
+    ap (λ (z : ℤ). negsuc 0 -ℤ quotZ z (pos (suc b))) e ∙ less-pos (a / suc b)
 floor-pos-neg (negsuc a) (negsuc b) h l = absurd (omega zarith)
 
 pub floor-neg-neg : (a b : ℤ) → b <ℤ pos 0 → a ≤ℤ pos 0 → quotZ a b ≡ floorZ a b

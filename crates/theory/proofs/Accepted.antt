@@ -21,9 +21,8 @@ use Rattle.rules.specs.Stages.{Run, run}
 use Rattle.rules.specs.Formulas.{isNone, isFree, passes, Free, d, translated, Formula, terms, term, WellFormedFormula}
 use Rattle.rules.specs.Calls.{Check, taken, refused, verdict, unless, firstOut, termsFault, termRefused, problemFits, formulaFits}
 use Rattle.rules.specs.Calls.{sizesCheck, inputsCheck, outputsCheck, moduliCheck, entriesCheck, exponentsCheck, rangeCheck, termsCheck}
-use Rattle.rules.specs.Calls.{buildVerdict, weighVerdict, translateVerdict}
+use Rattle.rules.specs.Calls.{buildVerdict, translateVerdict}
 use Rattle.theory.proofs.Weights.{free-of-isFree}
-use Rattle.theory.proofs.Sizes.{LimitedExponents}
 use Rattle.theory.proofs.Limits.{between, small}
 use Rattle.theory.proofs.Search.{Nowhere, none?, first-nowhere}
 
@@ -40,6 +39,10 @@ all-pass (c ∷ cs) e = go (c .fault) (all-pass cs) e
         → elim x [ none ↦ verdict cs | found place ↦ refused (c .number) place ] ≡ taken → (x ≡ none) × AllPass cs
     go none rest e = (refl, rest e)
     go (found place) rest e = let z : _≡_ {A = ℕ} 0 1 = cc in absurd (omega arith)
+
+pub taken-of-all : (cs : List Check) → AllPass cs → verdict cs ≡ taken
+taken-of-all [] a = refl
+taken-of-all (c ∷ cs) a = rw (a .0) (taken-of-all cs (a .1))
 
 pub unless-none : (b : Bool) → unless b ≡ none → b ≡ true
 unless-none true e = refl
@@ -172,17 +175,6 @@ unfolding buildVerdict
 build-accepted P outputs e =
     let a = checks-passed P (problemFits P) outputs (rangeCheck (run P) ∷ []) e in
     (a .problem (a .inputsFit), not-over (run P) (a .others .0))
-
-pub weigh-accepted : (P : Problem) (es : List ℤ) (outputs : Bool) → weighVerdict P es (problemFits P && eqb (length es) (P .n)) outputs ≡ taken
-    → WellFormed P × (length es ≡ P .n) × LimitedExponents P (nth es)
-unfolding weighVerdict
-weigh-accepted P es outputs e =
-    let a = checks-passed P (problemFits P && eqb (length es) (P .n)) outputs (exponentsCheck es ∷ []) e in
-    let fits = and-both (problemFits P) (eqb (length es) (P .n)) (a .inputsFit) in (
-      a .problem (fits .0),
-      eqb-true (length es) (P .n) (fits .1),
-      λ j b. exponents-small es (a .others .0) j,
-    )
 
 pub translate-accepted : (P : Problem) (f : Formula) (outputs : Bool) → translateVerdict P f (problemFits P && formulaFits P f) outputs ≡ taken
     → WellFormed P × WellFormedFormula P f × (run P .state .over ≡ false) × ((t : ℕ) → t < terms f → TermAccepted P (run P) (term P f t))

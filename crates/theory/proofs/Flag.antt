@@ -7,14 +7,14 @@ use mathlib.Core.List.{List, [], _∷_, _++_}
 use Prim.Native.Nat.{ℕ, zero, suc, _≤_, _<_}
 use native.Mathlib.Omega.{arith}
 use lib.ListN.{length}
-use lib.IntN.{ℤ, negℤ, natAbs}
+use lib.IntN.{ℤ, natAbs}
 use borrow.Author.Tests.{lt-ltb}
 use Rattle.whole.specs.Lists.{nth}
 use Rattle.whole.proofs.Tests.{Test, pass, fail, lt?, or-either}
 use Rattle.rules.specs.Limits.{M, beyond}
 use Rattle.rules.specs.Problem.{Problem}
 use Rattle.rules.specs.Search.{Found, each}
-use Rattle.rules.specs.Steps.{State, Table, line, anyBeyond, swapStep, negateStep, plus, addStep, reorder}
+use Rattle.rules.specs.Steps.{State, Table, anyBeyond, swapStep, negateStep, addStep, reorder}
 use Rattle.rules.specs.Stages.{Progress, eliminate, reduce, bring, makePositive, settle, row, rows, stage1, stage2, reduceFirst, stage3, run}
 use Rattle.theory.proofs.Search.{each-keeps}
 use Rattle.theory.proofs.StepLines.{swap-flag, negate-flag, add-flag}
@@ -80,21 +80,6 @@ stage3-over = Parts.stage3-keeps Over swap-over negate-over add-over
 pub anyBeyond-append : (xs ys : List ℤ) → anyBeyond (xs ++ ys) ≡ anyBeyond xs || anyBeyond ys
 anyBeyond-append [] ys = refl
 anyBeyond-append (x ∷ xs) ys = ap (λ b. beyond x || b) (anyBeyond-append xs ys) ∙ sym (or-assoc (beyond x) (anyBeyond xs) (anyBeyond ys))
-
--- what an addition writes, table by table
-pub add-flag-parts : (i j : ℕ) (q : ℤ) (u : State) → addStep i j q u .over
-    ≡ u .over || (anyBeyond (plus q (line u j .t) (line u i .t)) || anyBeyond (plus q (line u j .v) (line u i .v))
-    || anyBeyond (plus (negℤ q) (line u i .w) (line u j .w)))
-add-flag-parts i j q u = add-flag i j q u ∙ ap (λ b. u .over || b) (anyBeyond-append (t ++ v) w ∙ ap (λ b. b || anyBeyond w) (anyBeyond-append t v))
-  where
-    t : List ℤ
-    t = plus q (line u j .t) (line u i .t)
-
-    v : List ℤ
-    v = plus q (line u j .v) (line u i .v)
-
-    w : List ℤ
-    w = plus (negℤ q) (line u i .w) (line u j .w)
 
 -- a value of xs is beyond M
 pub record SomeBeyond (xs : List ℤ) : Type 0 where

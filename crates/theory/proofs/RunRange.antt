@@ -16,10 +16,9 @@ use Rattle.rules.specs.Limits.{M}
 use Rattle.rules.specs.Problem.{Problem, WellFormed, entry, modulus, N, modulusRows, modulusColumn, modulusColumns, quantityColumns, columns}
 use Rattle.rules.specs.Steps.{Table, get, getW, anyBeyond, unit, start}
 use Rattle.rules.specs.Stages.{run}
-use Rattle.theory.proofs.Lines.{Shape}
-use Rattle.theory.proofs.Start.{start-count, start-line, start-shape}
-use Rattle.theory.proofs.Sequence.{steps-shape}
-use Rattle.theory.proofs.Run.{length-columns, run-steps}
+use Rattle.theory.proofs.Start.{start-count, start-line}
+use Rattle.theory.proofs.Run.{run-steps}
+use Rattle.theory.proofs.Shape.{length-columns}
 use Rattle.theory.proofs.Range.{none-beyond, Fine, steps-fine, fine-get, fine-getW}
 
 -- ---- what holds of every modulus column and of every quantity column holds of every column of C
@@ -41,15 +40,6 @@ module _ (Q : List ℤ → Type 0) (P : Problem)
           let j : ℕ = c - length (modulusColumns P) in
           let l₂ : j < P .n = omega (arith, length-append (modulusColumns P) (quantityColumns P), length-tab (P .n) (λ j. tab (P .m) (λ i. entry P i j))) in
           rw (nth-rest (modulusColumns P) (quantityColumns P) c [] k, nth-tab (P .n) (λ j. tab (P .m) (λ i. entry P i j)) j [] l₂) (quantities j l₂)
-
--- ---- lengths
-pub run-shape : (P : Problem) → Shape (P .m) (N P) (run P .state)
-run-shape P = steps-shape (P .m) (run-steps P)
-    (subst (λ (n : ℕ). Shape (P .m) n (start (columns P))) (length-columns P) (start-shape (columns P) (P .m) long))
-  where
-    long : (c : ℕ) → c < length (columns P) → length (getD (columns P) c []) ≡ P .m
-    long = every-column (λ c. length c ≡ P .m) P
-        (λ i. length-tab (P .m) (λ r. elim (eqb i r) [ true ↦ negℤ (modulus P i) | false ↦ pos 0 ])) (λ j _. length-tab (P .m) (λ i. entry P i j))
 
 -- ---- the start is within M, if the problem is
 pub record Moderate (P : Problem) : Type 0 where

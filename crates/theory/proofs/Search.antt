@@ -252,16 +252,6 @@ module _ (lo : ℕ) where
       go (fail k) (yes e) r = omega (arith, total-cong f g c (λ d x. h d (omega arith) (omega arith)), subst (λ (z : ℕ). g z < f z) e l)
       go (fail k) (no e) r = omega (arith, r (omega arith), h c (omega arith) e)
 
-  pub total-zero : (f : ℕ → ℕ) (hi : ℕ) → total f lo hi ≡ 0 → (c : ℕ) → In lo hi c → f c ≡ 0
-  unfolding total
-  total-zero f zero e c i = absurd (omega arith)
-  total-zero f (suc a) e c i = go (lt? a lo) e (λ h. total-zero f a h)
-    where
-      go : {b : Bool} → Test (a < lo) (lo ≤ a) b → _≡_ {A = ℕ} (elim b [ true ↦ 0 | false ↦ total f lo a + f a ]) 0
-          → (total f lo a ≡ 0 → (c : ℕ) → In lo a c → f c ≡ 0) → f c ≡ 0
-      go (pass k) e r = absurd (omega arith)
-      go (fail k) e r = in-suc {P = λ d. f d ≡ 0} lo a (r (omega arith)) (omega arith) c i
-
 -- ---- a step at each index
 -- what holds before the first index of lo to hi, and is handed on at each, holds after the last
 pub each-holds : {S : Type 0} (Q : ℕ → S → Type 0) (f : ℕ → S → S) (lo hi : ℕ) (s : S) → lo ≤ hi → Q lo s

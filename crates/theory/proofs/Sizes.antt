@@ -69,13 +69,6 @@ module _ (P : Problem) (G : WellFormed P) where
       pub translated-begun-fits : (k : ℕ) → k ≤ N P → natAbs (sum k (λ c. W u (u .rank + g) c *ℤ kAnd P v c)) < 2 ^ 63
       translated-begun-fits k h = omega (arith, translated-begun-size k h)
 
-      pub translated-size : natAbs (translated P u v g) ≤ 24 * (M * 160_000_000)
-      unfolding translated
-      translated-size = translated-begun-size (N P) (omega arith)
-
-      pub translated-fits : natAbs (translated P u v g) < 2 ^ 63
-      translated-fits = omega (arith, translated-size)
-
   -- ---- the outputs
   pub room-for-H : length (contentsH P) ≤ roomH
   unfolding contentsH

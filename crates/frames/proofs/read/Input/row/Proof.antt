@@ -5,7 +5,7 @@ use Prim.Native.Nat.{_+_, _*_}
 use lib.Seq.{drop-drop}
 use Rattle.frames.specs.Input.{withRow}
 use Rattle.frames.proofs.Digits.{part-digits}
-use Rattle.frames.proofs.Numbers.{back}
+use Rattle.scaling.proofs.Values.{held}
 use Rattle.frames.proofs.Stored.{row-room}
 use native.Mathlib.Omega.{arith}
 use borrow.Author.Needs.{needs}
@@ -48,7 +48,7 @@ returns : tie.Need-returns
 unfolding withRow
 returns c =
     let a = c .before .before .before .before .args in
-    let z = back _ (c .before .before .short .ok) ∙ c .before .before .short .ensures in
+    let z = held _ (c .before .before .short .ok) ∙ c .before .before .short .ensures in
     rw (z, c .fill-matrix .ensures, drop-drop 2 (a .at) (a .text .now), drop-drop 6 (a .at) (a .text .now))
 
 pub row-spec : {M : Type 1} → statement M

@@ -6,7 +6,7 @@ use native.Mathlib.Numerals.{add-one}
 use lib.Seq.{drop-drop}
 use Rattle.frames.specs.Input.{withTerm}
 use Rattle.frames.proofs.Digits.{part-digits}
-use Rattle.frames.proofs.Numbers.{back}
+use Rattle.scaling.proofs.Values.{held}
 use Rattle.frames.proofs.Stored.{row-room}
 use native.Mathlib.Omega.{arith}
 use borrow.Author.Needs.{needs}
@@ -52,7 +52,7 @@ returns : tie.Need-returns
 unfolding withTerm
 returns c =
     let a = c .before .before .before .before .args in
-    let z = back _ (c .before .before .long .ok) ∙ c .before .before .long .ensures in
+    let z = held _ (c .before .before .long .ok) ∙ c .before .before .long .ensures in
     rw (z, c .fill-exponents .ensures, drop-drop 2 (a .at) (a .text .now), drop-drop 10 (a .at) (a .text .now), add-one)
 
 pub term-spec : {M : Type 1} → statement M
