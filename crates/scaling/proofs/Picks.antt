@@ -9,15 +9,15 @@ use native.Mathlib.Omega.{arith}
 use lib.ListN.{length}
 use lib.IntN.{ℤ, pos, negℤ, _+ℤ_, _*ℤ_}
 use Rattle.whole.specs.Lists.{nth, tab}
-use Rattle.whole.proofs.Tests.{or-neither}
 use Rattle.whole.proofs.Lists.{tab-cong, nth-tab}
 use Rattle.whole.proofs.Order.{abs-neg}
 use Rattle.whole.proofs.Exchange.{tr, Which, first, second, neither, which?, tr-first, tr-second, tr-neither}
 use Rattle.rules.specs.Limits.{beyond}
 use Rattle.rules.specs.Steps.{plus, anyBeyond}
+use Rattle.theory.proofs.Range.{beyond-none}
 use Rattle.scaling.specs.Flat.{Within, keep, sumAt, addF, addO, swapF, negF, turnF}
 use Rattle.scaling.specs.Join.{Small, pick}
-use Rattle.scaling.proofs.Values.{within, not-beyond, kept}
+use Rattle.scaling.proofs.Values.{not-beyond, kept}
 use Rattle.scaling.proofs.Places.{Layout, cell, turn-column, turn-row}
 use Rattle.scaling.proofs.Turns.{addF-kept, addF-reads, addF-made, negF-kept, negF-made, swapF-kept, swapF-first, swapF-second, turnF-made}
 
@@ -41,11 +41,6 @@ anyBeyond-last (suc k) f = ap (λ (b : Bool). beyond (f 0) || b) (anyBeyond-last
     swapped true true c = refl
     swapped true false c = refl
     swapped false b c = refl
-
-none-beyond : (k : ℕ) (f : ℕ → ℤ) → anyBeyond (tab k f) ≡ false → (i : ℕ) → i < k → beyond (f i) ≡ false
-none-beyond zero f e i h = absurd (omega arith)
-none-beyond (suc k) f e zero h = or-neither (beyond (f 0)) (anyBeyond (tab k (λ i. f (suc i)))) e .0
-none-beyond (suc k) f e (suc i) h = none-beyond k (λ i. f (suc i)) (or-neither (beyond (f 0)) (anyBeyond (tab k (λ i. f (suc i)))) e .1) i (omega arith)
 
 -- ---- lines
 pick-tab : (xs : List ℤ) (at stride k : ℕ) → pick xs at stride k ≡ tab k (λ i. nth xs (at + i * stride))
@@ -132,7 +127,7 @@ module _ {n : ℕ} {at : ℕ → ℕ} {stride count : ℕ} (lay : Layout n at st
     add-lines w e = record {
       here = pick-tab ys (at j) stride count ∙ tab-cong count (λ k. nth ys (at j + k * stride)) sum (λ k l.
           addF-made xs (at j) (at i) stride q count (lay .step hi) (lay .apart hj hi d) k l w
-          ∙ kept (sum k) (within (sum k) (none-beyond count sum (sym (flag-upto count (omega arith)) ∙ e) k l))) ∙ sym sums;
+          ∙ kept (sum k) (rw (nth-tab count sum k (pos 0) l) at (beyond-none (tab count sum) (sym (flag-upto count (omega arith)) ∙ e) k))) ∙ sym sums;
       off = λ c h x. pick-same ys xs (at c) (at c) stride count
           (λ k l. addF-kept xs (at j) (at i) stride q (at c + k * stride) count (λ o b. lay .apart h hj x .each k o l b));
     }

@@ -8,7 +8,7 @@ use native.Mathlib.Nat.{mul-le-mul}
 use native.Mathlib.Omega.{arith}
 use lib.Dec.{leb, eqb}
 use lib.ListN.{length, take}
-use lib.Seq.{take-all}
+use lib.Seq.{take-length}
 use lib.IntN.{ℤ}
 use borrow.Author.Tests.{leb-true}
 use Rattle.whole.proofs.Tests.{and-both}
@@ -41,7 +41,7 @@ module _ (P : Problem) (f : Formula) (ks ts : List ℤ) {x : Verdict} where
     number = refl;
     place = refl;
     d = g;
-    kept = k ∙ ap (λ l. filled l ks) (take-all (terms f) (f .coefficients) (omega arith));
+    kept = k ∙ ap (λ l. filled l ks) (take-length (f .coefficients));
     translated = t;
   })
 

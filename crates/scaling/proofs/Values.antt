@@ -3,7 +3,7 @@
 use mathlib.Core.Path.{_≡_, refl, ap, sym, _∙_}
 use mathlib.Core.Bool.{Bool, true, false, cond, false≢true}
 use Prim.Native.Nat.{ℕ, zero, suc, _/_, _^_, _<_, _≤_}
-use native.Mathlib.Nat.{mul-le-mul, zero-div}
+use native.Mathlib.Nat.{zero-div}
 use native.Mathlib.Omega.{arith}
 use lib.Dec.{T, eqb}
 use lib.IntN.{ℤ, pos, negsuc, natAbs, negℤ, _+ℤ_, _-ℤ_, _*ℤ_}
@@ -13,10 +13,11 @@ use mir.Val.{SFits, toZ, ofZ, hbits}
 use mir.Facts.{toZ-ofZ}
 use borrow.Author.Tests.{ltb-true, ltb-false, lt-ltb, le-ltb, ne-eqb}
 use Rattle.whole.specs.Division.{floorZ}
-use Rattle.whole.proofs.Order.{zarith, -is, fits, fits-abs, abs-neg, abs-add, abs-sub, abs-mul}
+use Rattle.whole.proofs.Order.{zarith, -is, fits, fits-abs, abs-neg, abs-sub, product-size}
 use Rattle.whole.proofs.Signs.{less-pos, less-neg}
 use Rattle.whole.proofs.Division.{quot-le}
 use Rattle.rules.specs.Limits.{M, isZero, beyond}
+use Rattle.theory.proofs.Sizes.{add-size}
 use Rattle.scaling.specs.Flat.{keep}
 
 -- ---- what fits
@@ -44,14 +45,11 @@ pub widened : (z : ℤ) → SFits w32 z → toZ w64 (ofZ w64 (toZ w32 (ofZ w32 z
 widened z f = rw (toZ-ofZ f) (toZ-ofZ (widens z f))
 
 module _ (a b : ℤ) (ha : natAbs a ≤ 2147483648) (hb : natAbs b ≤ 2147483648) where
-  prod-abs : natAbs (a *ℤ b) ≤ 4611686018427387904
-  prod-abs = rw (abs-mul a b) (mul-le-mul ha hb)
-
   pub prod-fits : SFits w64 (a *ℤ b)
-  prod-fits = fits64 (a *ℤ b) (omega (arith, prod-abs))
+  prod-fits = fits64 (a *ℤ b) (omega (arith, product-size a b ha hb))
 
   pub mix-fits : (x : ℤ) → natAbs x ≤ 2147483648 → SFits w64 (x +ℤ a *ℤ b)
-  mix-fits x hx = fits64 (x +ℤ a *ℤ b) (omega (arith, prod-abs, abs-add x (a *ℤ b)))
+  mix-fits x hx = fits w64 (x +ℤ a *ℤ b) (add-size x a b hx ha hb)
 
 pub quot-fits : (a b : ℤ) → natAbs a < 9223372036854775808 → SFits w64 (quotZ a b)
 quot-fits a b h = fits64 (quotZ a b) (omega (arith, quot-le a b))

@@ -7,7 +7,7 @@ use mathlib.Core.Bool.{Bool, cond}
 use Prim.Native.Nat.{ℕ, zero, suc, _+_, _*_, _-_, _≤_, _<_, _^_, min}
 use native.Mathlib.Omega.{arith}
 use native.Mathlib.Decide.{ℕ-discrete}
-use native.Mathlib.Nat.{mul-le-mul, le-mul-of-pos-right}
+use native.Mathlib.Nat.{mul-le-mul, le-mul-of-pos-right, suc-mul}
 use lib.Dec.{leb→le, le→leb, ltb→lt, lt→ltb}
 use lib.IntN.{ℤ, pos, negsuc, negℤ, natAbs, subℕ, _+ℤ_, _*ℤ_, _-ℤ_}
 use lib.Signed.{_≤ℤ_, _<ℤ_, mag}
@@ -148,6 +148,10 @@ pub fits-abs : (w : Width) (z : ℤ) → SFits w z → natAbs z ≤ 2 ^ hbits w
 fits-abs w z h = omega (arith, parts z, h .sfits)
 
 -- ---- indices
+-- row i of at most a rows, each of at most b entries
+pub row-within : (i n a b : ℕ) → i < a → n ≤ b → i * n + n ≤ a * b
+row-within i n a b h l = omega (arith, suc-mul i n, mul-le-mul {n₁ = suc i} {m₁ = n} h l)
+
 -- what holds at c and at every index below c holds at every index below c + 1
 pub below-suc {ℓ} : (Q : ℕ → Type ℓ) (c : ℕ) → Q c → (i : ℕ) → (i < c → Q i) → i < suc c → Q i
 below-suc Q c q i f h = go (ℕ-discrete i c)
