@@ -9,23 +9,23 @@ use native.Mathlib.Omega.{arith}
 use lib.Dec.{leb}
 use lib.ListN.{length}
 use lib.IntN.{ℤ}
+use Rattle.whole.proofs.Tests.{and-both}
 use Rattle.rules.specs.Bytes.{bytesOf, wholeNumbers}
 use Rattle.rules.specs.Limits.{sizesInRange}
-use Rattle.rules.specs.Problem.{Problem, N}
+use Rattle.rules.specs.Problem.{Problem, N, WellFormed}
 use Rattle.rules.specs.Stages.{run, H, U, W}
 use Rattle.rules.specs.Calls.{Check, Verdict, taken, refused, buildVerdict, buildReply, buildOf, built, problemFits}
 use Rattle.rules.specs.Calls.{moduliCheck, entriesCheck, rangeCheck, lentAfter, filled, contentsH, contentsV, contentsW}
 use Rattle.rules.specs.Bench.{problemOf, hasRoom, benchBuildVerdict, benchBuildOf, BenchBuilt}
-use Rattle.theory.proofs.MoreTests.{and-true}
-use Rattle.theory.proofs.MoreLists.{length-grid}
-use Rattle.theory.proofs.Sizes.{Limited, N-le-24, room-for-H, room-for-V, room-for-W}
-use Rattle.theory.proofs.Accepted.{build-accepted}
+use Rattle.theory.proofs.Sizes.{N-le-24, room-for-H, room-for-V, room-for-W}
+use Rattle.theory.proofs.Accepted.{sizes-passed, build-accepted}
+use Rattle.theory.proofs.Refusals.{build-not-0}
+use Rattle.theory.proofs.Grid.{length-grid}
 use Rattle.scaling.specs.declared.BuildAnswer.{BuildAnswer}
 use Rattle.scaling.specs.Checks.{given}
 use Rattle.scaling.specs.Answers as scaling
-use Rattle.scaling.proofs.Verdicts.{sizes-passed}
 use Rattle.bench.specs.Answers.{Builds}
-use Rattle.bench.proofs.Verdicts.{bool-same, verdicts-agree, first-passed, refusal-not-0}
+use Rattle.bench.proofs.Verdicts.{bool-same, verdicts-agree, first-passed}
 use Rattle.bench.proofs.Inputs.{Reads, problem-heard, problem-read}
 use Rattle.bench.proofs.Outputs.{Lent, Written, filled-written}
 
@@ -90,8 +90,8 @@ module _ {m n : ℕ} {matrix moduli h v w : List ℕ} {a p x y z : List ℤ} {r 
       let t = problem-heard m n (K .reads-matrix) (K .reads-moduli) l f in
       rw (t .0, t .1) (subst (λ (Q : Problem). problemFits Q ≡ true) (t .2) f))
       (λ f.
-      let t = and-true (wholeNumbers matrix && wholeNumbers moduli) (problemFits P) f in
-      let u = and-true (wholeNumbers matrix) (wholeNumbers moduli) (t .0) in
+      let t = and-both (wholeNumbers matrix && wholeNumbers moduli) (problemFits P) f in
+      let u = and-both (wholeNumbers matrix) (wholeNumbers moduli) (t .0) in
       subst (λ (Q : Problem). problemFits Q ≡ true) (sym (problem-read m n (K .reads-matrix) (K .reads-moduli) l (u .0) (u .1) (t .1))) (t .1))
 
   problem-same : sizesInRange m n ≡ true → problemFits P′ ≡ true → P′ ≡ P
@@ -127,26 +127,24 @@ module _ {m n : ℕ} {matrix moduli h v w : List ℕ} {a p x y z : List ℤ} {r 
       go : (u : Verdict) → scaling.Builds (built P′ x y z u) r x₁ y₁ z₁ → buildVerdict P′ (problemFits P′) outputs′ ≡ u → u ≡ taken
       go taken B e = refl
       go (refused number place) B e =
-          absurd (refusal-not-0 (sizesInRange m n) (problemFits P′) outputs′ (later P′)
-          (λ q f z. omega arith, (λ q f z. omega arith, (λ q f z. omega arith, tt)))
-          number place e (sym (B .number) ∙ d))
+          absurd (build-not-0 P′ (problemFits P′) outputs′ number place e (sym (B .number) ∙ d))
 
-  taken-writes : scaling.Builds (built P x y z taken) r x₁ y₁ z₁ → Limited P → outputs ≡ true
+  taken-writes : scaling.Builds (built P x y z taken) r x₁ y₁ z₁ → WellFormed P → outputs ≡ true
       → benchBuildVerdict m n matrix moduli h v w ≡ taken → Taken m n matrix moduli h v w r x₁ y₁ z₁
   unfolding benchBuildOf contentsH contentsV contentsW
-  taken-writes B L o e =
+  taken-writes B G o e =
       let c : N P ≡ n + r .moduli = ap (λ (k : ℕ). n + k) (sym (B .moduli)) in
-      let t = and-true (hasRoom 192 h && hasRoom 576 v) (hasRoom 576 w) o in
-      let u = and-true (hasRoom 192 h) (hasRoom 576 v) (t .0) in
+      let t = and-both (hasRoom 192 h && hasRoom 576 v) (hasRoom 576 w) o in
+      let u = and-both (hasRoom 192 h) (hasRoom 576 v) (t .0) in
       let square = ap₂ (λ (i j : ℕ). i * j) c c in
       record {
-        columns = omega (arith, N-le-24 P L);
+        columns = omega (arith, N-le-24 P G);
         written-h = filled-written h 192 (m * (n + r .moduli)) x₁ (contentsH P) x (u .0)
-            (length-grid m (N P) (H (run P)) ∙ ap (λ (k : ℕ). m * k) c) (room-for-H P L) (B .h);
+            (length-grid m (N P) (H (run P)) ∙ ap (λ (k : ℕ). m * k) c) (room-for-H P G) (B .h);
         written-v = filled-written v 576 ((n + r .moduli) * (n + r .moduli)) y₁ (contentsV P) y (u .1)
-            (length-grid (N P) (N P) (U (run P)) ∙ square) (room-for-V P L) (B .v);
+            (length-grid (N P) (N P) (U (run P)) ∙ square) (room-for-V P G) (B .v);
         written-w = filled-written w 576 ((n + r .moduli) * (n + r .moduli)) z₁ (contentsW P) z (t .1)
-            (length-grid (N P) (N P) (W (run P)) ∙ square) (room-for-W P L) (B .w);
+            (length-grid (N P) (N P) (W (run P)) ∙ square) (room-for-W P G) (B .w);
         builds = rw e (record {
           number = B .number;
           place = B .place;
@@ -167,5 +165,5 @@ module _ {m n : ℕ} {matrix moduli h v w : List ℕ} {a p x y z : List ℤ} {r 
       let q = problem-same (t .0) (t .1) in
       let f = subst (λ (Q : Problem). buildVerdict Q (problemFits Q) outputs′ ≡ taken) q e in
       let B = subst (λ (u : Verdict). scaling.Builds (built P′ x y z u) r x₁ y₁ z₁) e (K .builds) in
-      taken-writes (subst (λ (Q : Problem). scaling.Builds (built Q x y z taken) r x₁ y₁ z₁) q B) (build-accepted P outputs′ f .0 .limited)
+      taken-writes (subst (λ (Q : Problem). scaling.Builds (built Q x y z taken) r x₁ y₁ z₁) q B) (build-accepted P outputs′ f .0)
       (sym outputs-same ∙ t .2) (sym verdict-same ∙ e)

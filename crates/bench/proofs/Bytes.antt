@@ -12,6 +12,7 @@ use mir.Syntax.{w32}
 use mir.Val.{ofZ}
 use Rattle.rules.specs.Bytes.{byteAt, long, longs, fourBytes, bytesOf}
 use Rattle.rules.specs.Calls.{filled}
+use Rattle.theory.proofs.Bytes.{length-bytes, bytes-append}
 use Rattle.bench.specs.Words.{Put}
 
 -- ---- reading
@@ -43,16 +44,6 @@ four-set out at a b c d h =
     let f : at + 2 ≡ suc (suc at) = omega arith in
     let g : at + 3 ≡ suc (suc (suc at)) = omega arith in
     rw (e, f, g) (sets-eq (a ∷ b ∷ c ∷ d ∷ []) out at (omega arith))
-
-length-bytes : (zs : List ℤ) → length (bytesOf zs) ≡ 4 * length zs
-unfolding bytesOf
-length-bytes [] = refl
-length-bytes (z ∷ zs) = omega (arith, length-bytes zs)
-
-bytes-append : (xs ys : List ℤ) → bytesOf (xs ++ ys) ≡ bytesOf xs ++ bytesOf ys
-unfolding bytesOf
-bytes-append [] ys = refl
-bytes-append (x ∷ xs) ys = ap (λ (t : List ℕ). fourBytes (ofZ w32 x) ++ t) (bytes-append xs ys)
 
 bytes-one : (z : ℤ) → bytesOf (z ∷ []) ≡ fourBytes (ofZ w32 z)
 unfolding bytesOf

@@ -6,20 +6,19 @@ use Prim.Native.Nat.{ℕ, suc, _*_, _≤_}
 use native.Mathlib.Nat.{mul-le-mul}
 use native.Mathlib.Omega.{arith}
 use borrow.Author.Tests.{lt-ltb}
-use lib.Dec.{ltb, leb, eqb}
+use lib.Dec.{ltb}
 use lib.ListN.{length, take}
 use lib.Seq.{length-take-le}
 use lib.IntN.{ℤ}
-use Rattle.whole.proofs.Tests.{le?, eq?}
+use Rattle.whole.proofs.Tests.{and-both}
 use Rattle.rules.specs.Bytes.{wholeNumbers, numbersIn, numbersOf}
 use Rattle.rules.specs.Problem.{Problem}
 use Rattle.rules.specs.Calls.{problemFits, formulaFits}
 use Rattle.rules.specs.Bench.{problemOf}
 use Rattle.rules.specs.Bench as bench
-use Rattle.theory.proofs.MoreTests.{passed, and-true}
 use Rattle.scaling.specs.Checks.{given}
 use Rattle.scaling.specs.Answers.{formulaOf}
-use Rattle.scaling.proofs.Verdicts.{Sizes, lengths-passed}
+use Rattle.theory.proofs.Accepted.{Sizes, lengths-passed, formula-lengths}
 use Rattle.bench.specs.Words.{readable, Decoded}
 use Rattle.bench.proofs.Bytes.{length-longs}
 
@@ -47,7 +46,7 @@ module _ {s : List ℕ} {most : ℕ} {xs : List ℤ} (R : Reads s most xs) where
   heard h = go (readable s (suc most)) refl
     where
       go : (b : Bool) → readable s (suc most) ≡ b → (wholeNumbers s ≡ true) × (xs ≡ numbersOf s)
-      go true e = (and-true (wholeNumbers s) (ltb (numbersIn s) (suc most)) e .0, R .right e)
+      go true e = (and-both (wholeNumbers s) (ltb (numbersIn s) (suc most)) e .0, R .right e)
       go false e = absurd (omega (arith, R .wrong e))
 
   read : wholeNumbers s ≡ true → length (numbersOf s) ≤ most → xs ≡ numbersOf s
@@ -80,16 +79,13 @@ module _ (P : Problem) {cs es : List ℕ} {c e : List ℤ} (C : Reads cs 64 c) (
   pub formula-heard : formulaFits P (formulaOf c e) ≡ true
       → (wholeNumbers cs ≡ true) × (wholeNumbers es ≡ true) × (formulaOf c e ≡ bench.formulaOf cs es)
   formula-heard f =
-      let t = and-true (eqb (length e) (length c * P .n)) (leb (length c) 64) f in
-      let k = passed (le? (length c) 64) (t .1) in
-      let x = heard C k in
-      let y = heard E (omega (arith, passed (eq? (length e) (length c * P .n)) (t .0), mul-le-mul k l)) in
+      let t = formula-lengths P (formulaOf c e) f in
+      let x = heard C (t .1) in
+      let y = heard E (omega (arith, t .0, mul-le-mul (t .1) l)) in
       (x .0, y .0, ap₂ formulaOf (x .1) (y .1))
 
   pub formula-read : wholeNumbers cs ≡ true → wholeNumbers es ≡ true → formulaFits P (bench.formulaOf cs es) ≡ true
       → formulaOf c e ≡ bench.formulaOf cs es
   formula-read v w f =
-      let t = and-true (eqb (length (numbersOf es)) (length (numbersOf cs) * P .n)) (leb (length (numbersOf cs)) 64) f in
-      let k = passed (le? (length (numbersOf cs)) 64) (t .1) in
-      ap₂ formulaOf (read C v k)
-      (read E w (omega (arith, passed (eq? (length (numbersOf es)) (length (numbersOf cs) * P .n)) (t .0), mul-le-mul k l)))
+      let t = formula-lengths P (bench.formulaOf cs es) f in
+      ap₂ formulaOf (read C v (t .1)) (read E w (omega (arith, t .0, mul-le-mul (t .1) l)))

@@ -1,13 +1,11 @@
 -- Laws for the bench's proofs, from the top: each module stands on those above it only.
---     Signs           both cases of a number in two's complement
 --     Bytes           numbers in bytes, read and written one after the other
 --     Rooms           which lent bytes are read and which have room, from the tests of the code
---     Verdicts        when two verdicts agree, and the number of a refusal
+--     Verdicts        when two verdicts agree
 --     Inputs          what the code makes of lent inputs, and which problem and formula come of it
 --     Outputs         what the code hands on for lent outputs, and what is written of it
 --     BuildCall       from the build of what was heard to the build of the bytes
 --     TranslateCall   the same for the translation
-pub mod Signs
 pub mod Bytes
 pub mod Rooms
 pub mod Verdicts

@@ -9,11 +9,10 @@ use lib.Dec.{leb}
 use lib.ListN.{length, take, drop}
 use lib.Seq.{length-take-le, length-front, take-at}
 use lib.IntN.{ℤ}
-use Rattle.whole.proofs.Tests.{le?}
+use Rattle.whole.proofs.Tests.{le?, passed, and-both}
 use Rattle.rules.specs.Bytes.{wholeNumbers, numbersIn, bytesOf}
 use Rattle.rules.specs.Calls.{filled}
 use Rattle.rules.specs.Bench.{hasRoom}
-use Rattle.theory.proofs.MoreTests.{passed, and-true}
 use Rattle.bench.specs.Words.{roomOf}
 
 -- xs is handed on for the lent bytes bs
@@ -53,7 +52,7 @@ pub record Written (bs : List ℕ) (least : ℕ) (xs contents : List ℤ) (count
 pub filled-written : (bs : List ℕ) (least count : ℕ) (xs contents lent : List ℤ) → hasRoom least bs ≡ true
     → length contents ≡ count → length contents ≤ least → xs ≡ filled contents lent → Written bs least xs contents count
 filled-written bs least count xs contents lent h l f e =
-    let t = and-true (wholeNumbers bs) (leb least (numbersIn bs)) h in
+    let t = and-both (wholeNumbers bs) (leb least (numbersIn bs)) h in
     let k = passed (le? least (numbersIn bs)) (t .1) in
     record {
       fits = omega arith;

@@ -1,7 +1,7 @@
 -- Which lent bytes are read as numbers and which have room for them, from the tests of the code. Assumes nothing.
 use mathlib.Core.Path.{_≡_, refl, sym, _∙_}
 use mathlib.Core.Logic.{_≢_}
-use mathlib.Core.Bool.{Bool, true, false, _&&_}
+use mathlib.Core.Bool.{true, false, and-false}
 use mathlib.Core.List.{List}
 use Prim.Native.Nat.{ℕ, _+_, _/_, _%_, _*_, _<_, _≤_}
 use native.Mathlib.Numerals.{add-one}
@@ -12,18 +12,14 @@ use lib.Seq.{take-suc-set}
 use lib.IntN.{ℤ}
 use mir.Syntax.{w32}
 use mir.Val.{toZ}
+use Rattle.whole.proofs.Tests.{true-not-false}
 use Rattle.rules.specs.Bytes.{long, longs, wholeNumbers, byteAt}
-use Rattle.theory.proofs.ExtraTests.{true-not-false}
 use Rattle.bench.specs.Words.{readable, Decoded, roomOf}
 use Rattle.bench.proofs.Bytes.{longs-suc}
 
 -- ---- outputs
 pub room-torn : (s : List ℕ) (least : ℕ) → length s % 4 ≢ 0 → roomOf s least ≡ 0
 room-torn s least h = rw (ne-eqb (length s % 4) 0 h)
-
-and-false : (b : Bool) → b && false ≡ false
-and-false true = refl
-and-false false = refl
 
 pub room-short : (s : List ℕ) (least : ℕ) → length s / 4 < least → roomOf s least ≡ 0
 room-short s least h = rw (lt-leb least (length s / 4) h, and-false (wholeNumbers s))
@@ -46,7 +42,6 @@ decoded-wrong s out e = record {
   same = refl;
   upto = omega arith;
   numbers = λ f. absurd (true-not-false f e);
-  count = λ f. absurd (true-not-false f e);
   wrong = λ f. refl;
 }
 
@@ -56,7 +51,6 @@ decoded-all s out₀ out₁ e h l t = record {
   same = l;
   upto = omega arith;
   numbers = λ f. t;
-  count = λ f. refl;
   wrong = λ f. absurd (true-not-false (readable-fits s (length out₀) e h) f);
 }
 

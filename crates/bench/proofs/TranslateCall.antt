@@ -5,32 +5,30 @@ use mathlib.Core.Logic.{_≢_}
 use mathlib.Core.Bool.{Bool, true, _&&_}
 use mathlib.Core.List.{List, [], _∷_}
 use Prim.Native.Nat.{ℕ, _*_}
-use native.Mathlib.Omega.{arith}
 use lib.Dec.{leb}
 use lib.ListN.{length}
 use lib.IntN.{ℤ}
+use Rattle.whole.proofs.Tests.{and-both}
 use Rattle.rules.specs.Bytes.{bytesOf, wholeNumbers}
 use Rattle.rules.specs.Limits.{sizesInRange}
-use Rattle.rules.specs.Search.{first}
-use Rattle.rules.specs.Problem.{Problem}
+use Rattle.rules.specs.Problem.{Problem, WellFormed}
 use Rattle.rules.specs.Stages.{run}
-use Rattle.rules.specs.Formulas.{Formula, d, terms, term, translated}
+use Rattle.rules.specs.Formulas.{Formula, d, terms, term, translated, WellFormedFormula}
 use Rattle.rules.specs.Calls.{Check, Verdict, taken, refused, translateVerdict, translateReply, translateOf, translatedTo, problemFits, formulaFits}
-use Rattle.rules.specs.Calls.{moduliCheck, entriesCheck, exponentsCheck, rangeCheck, termsCheck, termRefused, lentAfter, filled, translatedExponents}
+use Rattle.rules.specs.Calls.{moduliCheck, entriesCheck, exponentsCheck, rangeCheck, termsCheck, lentAfter, filled, translatedExponents}
 use Rattle.rules.specs.Bench.{problemOf, hasRoom, benchTranslateVerdict, benchTranslateOf, BenchTranslated}
 use Rattle.rules.specs.Bench as bench
-use Rattle.theory.proofs.MoreTests.{and-true}
-use Rattle.theory.proofs.MoreLists.{length-grid}
 use Rattle.theory.proofs.Run.{run-right}
 use Rattle.theory.proofs.Sizes.{room-for-exponents}
-use Rattle.theory.proofs.Accepted.{AcceptedProblem, AcceptedFormula, translate-accepted}
+use Rattle.theory.proofs.Accepted.{sizes-passed, translate-accepted}
+use Rattle.theory.proofs.Refusals.{translate-not-0}
+use Rattle.theory.proofs.Grid.{length-grid}
 use Rattle.scaling.specs.declared.TranslateAnswer.{TranslateAnswer}
 use Rattle.scaling.specs.Checks.{given}
 use Rattle.scaling.specs.Answers as scaling
 use Rattle.scaling.specs.Answers.{formulaOf}
-use Rattle.scaling.proofs.Verdicts.{sizes-passed}
 use Rattle.bench.specs.Answers.{Translates}
-use Rattle.bench.proofs.Verdicts.{bool-same, verdicts-agree, first-passed, refusal-not-0, terms-numbered}
+use Rattle.bench.proofs.Verdicts.{bool-same, verdicts-agree, first-passed}
 use Rattle.bench.proofs.Inputs.{Reads, problem-heard, problem-read, formula-heard, formula-read}
 use Rattle.bench.proofs.Outputs.{Lent, Written, filled-written}
 
@@ -105,7 +103,7 @@ module _ {m n : ℕ} {matrix moduli cs es kept out : List ℕ} {a p c e x y : Li
   all-heard : sizesInRange m n ≡ true → inputs′ ≡ true → Same × (inputs ≡ true)
   all-heard o i =
       let l = sizes-passed m n o in
-      let t = and-true (problemFits P′) (formulaFits P′ f′) i in
+      let t = and-both (problemFits P′) (formulaFits P′ f′) i in
       let u = problem-heard m n (K .reads-matrix) (K .reads-moduli) l (t .0) in
       let v = formula-heard P′ (K .reads-coefficients) (K .reads-exponents) (l .n-high) (t .1) in
       let s : Same = (u .2, v .2) in
@@ -118,11 +116,11 @@ module _ {m n : ℕ} {matrix moduli cs es kept out : List ℕ} {a p c e x y : Li
       let w₂ = wholeNumbers moduli in
       let w₃ = wholeNumbers cs in
       let w₄ = wholeNumbers es in
-      let t₅ = and-true (w₁ && w₂ && w₃ && w₄ && problemFits P) (formulaFits P f) i in
-      let t₄ = and-true (w₁ && w₂ && w₃ && w₄) (problemFits P) (t₅ .0) in
-      let t₃ = and-true (w₁ && w₂ && w₃) w₄ (t₄ .0) in
-      let t₂ = and-true (w₁ && w₂) w₃ (t₃ .0) in
-      let t₁ = and-true w₁ w₂ (t₂ .0) in
+      let t₅ = and-both (w₁ && w₂ && w₃ && w₄ && problemFits P) (formulaFits P f) i in
+      let t₄ = and-both (w₁ && w₂ && w₃ && w₄) (problemFits P) (t₅ .0) in
+      let t₃ = and-both (w₁ && w₂ && w₃) w₄ (t₄ .0) in
+      let t₂ = and-both (w₁ && w₂) w₃ (t₃ .0) in
+      let t₁ = and-both w₁ w₂ (t₂ .0) in
       let q = problem-read m n (K .reads-matrix) (K .reads-moduli) l (t₁ .0) (t₁ .1) (t₄ .1) in
       let g = formula-read P (K .reads-coefficients) (K .reads-exponents) (l .n-high) (t₂ .1) (t₃ .1) (t₅ .1) in
       fits-same (q, g) ∙ rw (t₄ .1) (t₅ .1)
@@ -149,31 +147,19 @@ module _ {m n : ℕ} {matrix moduli cs es kept out : List ℕ} {a p c e x y : Li
       go : (u : Verdict) → scaling.Translates (translatedTo P′ f′ x y u) r x₁ y₁ → translateVerdict P′ f′ inputs′ outputs′ ≡ u → u ≡ taken
       go taken B e = refl
       go (refused number place) B e =
-          absurd (refusal-not-0 (sizesInRange m n) inputs′ outputs′ (later P′ f′) (
-            λ q i z. omega arith,
-            (
-              λ q i z. omega arith,
-              (
-                λ q i z. omega arith,
-                (
-                  λ q i z. omega arith,
-                  (terms-numbered P′ f′ (first (λ t. termRefused P′ (run P′) (term P′ f′ t)) 0 (terms f′)), tt),
-                ),
-              ),
-            ),
-          ) number place e (sym (B .number) ∙ h))
+          absurd (translate-not-0 P′ inputs′ outputs′ f′ number place e (sym (B .number) ∙ h))
 
-  taken-writes : scaling.Translates (translatedTo P f x y taken) r x₁ y₁ → count ≡ terms f → AcceptedProblem P → AcceptedFormula P f
+  taken-writes : scaling.Translates (translatedTo P f x y taken) r x₁ y₁ → count ≡ terms f → WellFormed P → WellFormedFormula P f
       → outputs ≡ true → benchTranslateVerdict m n matrix moduli cs es kept out ≡ taken → Taken m n matrix moduli cs es kept out count r x₁ y₁
   unfolding benchTranslateOf translatedExponents
-  taken-writes B k A F o e =
-      let t = and-true (hasRoom 64 kept) (hasRoom 1024 out) o in
+  taken-writes B k G F o e =
+      let t = and-both (hasRoom 64 kept) (hasRoom 1024 out) o in
       let l : length (translatedExponents P f) ≡ count * r .d
       = length-grid (terms f) (d P (run P)) (λ t g. translated P (run P) (term P f t) g) ∙ ap₂ (λ (i j : ℕ). i * j) (sym k) (sym (B .d)) in
       record {
-        written-kept = filled-written kept 64 count x₁ (f .coefficients) x (t .0) (sym k) (F .fewTerms) (B .kept);
+        written-kept = filled-written kept 64 count x₁ (f .coefficients) x (t .0) (sym k) (F .few) (B .kept);
         written-translated = filled-written out 1024 (count * r .d) y₁ (translatedExponents P f) y (t .1) l
-            (room-for-exponents P (A .limited) (run-right P) f (F .fewTerms)) (B .translated);
+            (room-for-exponents P G (run-right P) f (F .few)) (B .translated);
         translates = rw e (record { number = B .number; place = B .place; d = B .d; kept = refl; translated = refl });
       }
 

@@ -17,7 +17,6 @@ pub record Decoded (s : List ℕ) (out₀ out₁ : List ℤ) (r : ℕ) : Type 0 
   pub same : length out₁ ≡ length out₀
   pub upto : r ≤ length out₀
   pub numbers : readable s (length out₀) ≡ true → take r out₁ ≡ numbersOf s
-  pub count : readable s (length out₀) ≡ true → r ≡ numbersIn s
   pub wrong : readable s (length out₀) ≡ false → r ≡ length out₀
 
 abbrev pub roomOf : List ℕ → (least : ℕ) → ℕ

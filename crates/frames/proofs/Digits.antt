@@ -9,17 +9,9 @@ use borrow.Author.Tests.{leb-true, ltb-true, lt-ltb, le-ltb}
 use lib.Dec.{ltb, leb}
 use lib.ListN.{length, getD, take, drop, length-drop}
 use lib.Seq.{drop-cons, drop-drop, length-take-le}
+use Rattle.whole.proofs.Tests.{and-both}
 use Rattle.rules.specs.Frames.{digit, allDigits, unhex, whole, frameOf}
 use Rattle.frames.specs.Line.{pair}
-
--- ---- tests
-pub and-left : (a b : Bool) → a && b ≡ true → a ≡ true
-and-left true b e = refl
-and-left false b e = e
-
-pub and-right : (a b : Bool) → a && b ≡ true → b ≡ true
-and-right true b e = e
-and-right false b e = let z : false ≡ true = e in let n : _≡_ {A = ℕ} 0 1 = cc in absurd (omega arith)
 
 -- ---- digits
 abbrev pub isDigit : ℕ → Bool
@@ -27,7 +19,7 @@ isDigit b = ltb (digit b) 16
 
 pub digit-most : (b : ℕ) → digit b ≤ 16
 unfolding digit
-digit-most b = go (leb 48 b && leb b 57) (leb 97 b && leb b 102) (λ e. leb-true _ _ (and-right (leb 48 b) _ e)) (λ e. leb-true _ _ (and-right (leb 97 b) _ e))
+digit-most b = go (leb 48 b && leb b 57) (leb 97 b && leb b 102) (λ e. leb-true _ _ (and-both (leb 48 b) _ e .1)) (λ e. leb-true _ _ (and-both (leb 97 b) _ e .1))
   where
     go : (p q : Bool) → (p ≡ true → b ≤ 57) → (q ≡ true → b ≤ 102) → cond p (b - 48) (cond q (b - 87) 16) ≤ 16
     go true q f g = let h = f refl in omega arith
@@ -60,11 +52,11 @@ digits-part c zero zero t e h = refl
 digits-part c zero (suc j) [] e h = refl
 digits-part zero zero (suc j) (b ∷ t) e h = absurd (omega arith)
 digits-part (suc c) zero (suc j) (b ∷ t) e h =
-    ap₂ _&&_ (and-left (isDigit b) _ e) (digits-part c zero j t (and-right (isDigit b) _ e) (omega arith))
+    ap₂ _&&_ (and-both (isDigit b) _ e .0) (digits-part c zero j t (and-both (isDigit b) _ e .1) (omega arith))
 digits-part c (suc i) zero [] e h = refl
 digits-part c (suc i) (suc j) [] e h = refl
 digits-part zero (suc i) j (b ∷ t) e h = absurd (omega arith)
-digits-part (suc c) (suc i) j (b ∷ t) e h = digits-part c i j t (and-right (isDigit b) _ e) (omega arith)
+digits-part (suc c) (suc i) j (b ∷ t) e h = digits-part c i j t (and-both (isDigit b) _ e .1) (omega arith)
 
 -- the digits of a part of a line are digits
 pub part-digits : (s : List ℕ) (at c i j : ℕ) → allDigits (take c (drop at s)) ≡ true → i + j ≤ c → allDigits (take j (drop (at + i) s)) ≡ true
@@ -73,8 +65,8 @@ part-digits s at c i j e h = rw drop-drop at (digits-part c i j (drop at s) e h)
 digit-small : (c i : ℕ) (t : List ℕ) → allDigits (take c t) ≡ true → i < c → i < length t → digit (getD t i 0) < 16
 digit-small c i [] e h l = absurd (omega arith)
 digit-small zero i (b ∷ t) e h l = absurd (omega arith)
-digit-small (suc c) zero (b ∷ t) e h l = ltb-true _ _ (and-left (isDigit b) _ e)
-digit-small (suc c) (suc i) (b ∷ t) e h l = digit-small c i t (and-right (isDigit b) _ e) (omega arith) (omega arith)
+digit-small (suc c) zero (b ∷ t) e h l = ltb-true _ _ (and-both (isDigit b) _ e .0)
+digit-small (suc c) (suc i) (b ∷ t) e h l = digit-small c i t (and-both (isDigit b) _ e .1) (omega arith) (omega arith)
 
 -- ---- bytes
 pub pair-most : (t : List ℕ) → pair t ≤ 272

@@ -1,43 +1,25 @@
 -- Lengths: what was read has those that the calls ask, and so have the arrays that are lent to them.
 -- Assumes nothing.
 use mathlib.Core.Path.{_≡_, sym, ap, ap₂, _∙_}
-use mathlib.Core.Bool.{Bool, true, false, _&&_}
-use mathlib.Core.List.{List, [], _∷_}
-use Prim.Native.Nat.{ℕ, suc, _*_, _≤_}
+use mathlib.Core.Bool.{true, _&&_}
+use mathlib.Core.List.{List, []}
+use Prim.Native.Nat.{ℕ, _*_, _≤_}
 use native.Mathlib.Nat.{mul-le-mul}
 use native.Mathlib.Omega.{arith}
 use borrow.Author.Tests.{eq-eqb, le-leb}
 use lib.ListN.{length, take, drop, length-append, length-drop}
 use lib.Seq.{length-take-le}
 use lib.IntN.{ℤ}
-use Rattle.whole.specs.Lists.{tab}
-use Rattle.whole.specs.Matrix.{Matrix}
-use Rattle.whole.proofs.Lists.{length-tab, length-join}
-use Rattle.rules.specs.Limits.{isZero}
-use Rattle.rules.specs.Problem.{modulusRowsFrom, s}
+use Rattle.rules.specs.Problem.{s}
 use Rattle.rules.specs.Formulas.{terms}
-use Rattle.rules.specs.Calls.{problemFits, formulaFits, grid, filled}
+use Rattle.rules.specs.Calls.{problemFits, formulaFits, filled}
+use Rattle.theory.proofs.ModulusRows.{s-le-m}
 use Rattle.frames.specs.declared.read.Input.{Input}
 use Rattle.frames.specs.Input.{Sized, problemIn, formulaIn}
-
-pub grid-length : (m n : ℕ) (A : Matrix) → length (grid m n A) ≡ m * n
-grid-length m n A = length-join n m (λ r. tab n (λ c. A r c)) (λ i l. length-tab n (λ c. A i c))
 
 -- a lent array keeps its room when its first entries are filled
 pub filled-room : (contents lent after : List ℤ) {k : ℕ} → after ≡ filled contents lent → k ≤ length lent → k ≤ length after
 filled-room contents lent after e h = omega (arith, ap length e, length-append contents (drop (length contents) lent), length-drop (length contents) lent)
-
-rows-few : (i : ℕ) (ps : List ℤ) → length (modulusRowsFrom i ps) ≤ length ps
-unfolding modulusRowsFrom
-rows-few i [] = omega arith
-rows-few i (p ∷ ps) = go (isZero p) (rows-few (suc i) ps)
-  where
-    rows-of : Bool → List ℕ
-    rows-of b = elim b [ true ↦ modulusRowsFrom (suc i) ps | false ↦ i ∷ modulusRowsFrom (suc i) ps ]
-
-    go : (b : Bool) → length (modulusRowsFrom (suc i) ps) ≤ length ps → length (rows-of b) ≤ suc (length ps)
-    go true h = omega arith
-    go false h = omega arith
 
 -- ---- what was read
 module _ (x : Input) (z : Sized x) where
@@ -73,7 +55,7 @@ module _ (x : Input) (z : Sized x) where
   exponents-length = length-take-le (x .terms * x .n) (x .exponents) exponents-fit
 
   pub few-moduli : s (problemIn x) ≤ 8
-  few-moduli = omega (arith, rows-few 0 (take (x .m) (x .moduli)), moduli-length, z .few-rows)
+  few-moduli = omega (arith, s-le-m (problemIn x) moduli-length, z .few-rows)
 
   pub problem-fits : problemFits (problemIn x) ≡ true
   problem-fits = ap₂ _&&_ (eq-eqb _ _ matrix-length) (eq-eqb _ _ moduli-length)

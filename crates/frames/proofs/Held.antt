@@ -9,6 +9,7 @@ use lib.ListN.{length, take, drop, length-set, length-replicate}
 use lib.Seq.{length-paste}
 use lib.IntN.{pos}
 use Rattle.whole.specs.Lists.{join}
+use Rattle.whole.proofs.Order.{row-within}
 use Rattle.rules.specs.Calls.{translateVerdict}
 use Rattle.rules.specs.Bytes.{short, long, shorts}
 use Rattle.rules.specs.Frames.{unhex, TextLine, whole, frameOf, rowModulus, rowEntries, termCoefficient, termExponents, Reading, refusalLine, answered, answerTo}
@@ -16,7 +17,7 @@ use Rattle.frames.specs.declared.read.Input.{Input}
 use Rattle.frames.specs.Input.{problemIn, formulaIn, Sized, Holds, refuses, takes, empty, withRow, withTerm}
 use Rattle.frames.proofs.Digits.{frame-is, unhex-drop}
 use Rattle.frames.proofs.Numbers.{short-first, long-first, shorts-length}
-use Rattle.frames.proofs.Stored.{number-more, numbers-more, count-more, row-room}
+use Rattle.frames.proofs.Stored.{number-more, numbers-more, count-more}
 
 -- ---- a line's numbers
 module _ (n : ℕ) (t : List ℕ) where
@@ -84,7 +85,7 @@ module _ {m n : ℕ} {x : Input} {rows terms : List TextLine} (x-holds : Held m 
   held-row few room =
       let l : TextLine = whole (take (6 + 4 * n) t) in
       let k = shorts-length n (unhex (2 * n) (drop 6 t)) in
-      let r = row-room (length rows) n 8 16 few columns in
+      let r = row-within (length rows) n 8 16 few columns in
       record {
         number = x-holds .number;
         m-is = x-holds .m-is;
@@ -105,7 +106,7 @@ module _ {m n : ℕ} {x : Input} {rows terms : List TextLine} (x-holds : Held m 
   held-term few room =
       let l : TextLine = whole (take (10 + 4 * n) t) in
       let k = shorts-length n (unhex (2 * n) (drop 10 t)) in
-      let r = row-room (length terms) n 64 16 few columns in
+      let r = row-within (length terms) n 64 16 few columns in
       record {
         number = x-holds .number;
         m-is = x-holds .m-is;

@@ -1,6 +1,6 @@
 -- Laws for the proofs of this crate's functions. Nothing here is part of any contract, and nothing is assumed.
 --     Digits     digits of a text, and the bytes that they write
---     Numbers    numbers in two's complement
+--     Numbers    the bytes of a line as numbers
 --     Lines      the first line of a text, as the code tests it and as the definitions have it
 --     FirstBad   the search for the first line that is bad or missing, step by step
 --     Stored     the numbers of lines at the front of an array, one line more
@@ -11,7 +11,6 @@
 --     Prefix     the first 5,376 bytes of the input decide the program's answer
 --     Filled     texts written one after the other from the start of a buffer, and how long they are
 --     Fits       the lengths of what was read and of the arrays that are lent
---     Verdicts   a translation that is taken means that the build is taken
 --     Solved     what the two calls answer to what was read, and the lines that tell it
 pub mod Digits
 pub mod Numbers
@@ -25,5 +24,4 @@ pub mod Printed
 pub mod Prefix
 pub mod Filled
 pub mod Fits
-pub mod Verdicts
 pub mod Solved

@@ -1,7 +1,7 @@
 -- The first of a text's lines, as the code tests it and as the definitions have it.
 -- Assumes nothing.
 use mathlib.Core.Path.{_≡_, refl, sym, ap, _∙_}
-use mathlib.Core.Bool.{Bool, true, false, _&&_, and-false, and-assoc}
+use mathlib.Core.Bool.{Bool, true, false, _&&_, and-false, and-assoc, false≢true}
 use mathlib.Core.List.{List, [], _∷_}
 use Prim.Native.Nat.{ℕ, zero, suc, _+_, _-_, _*_, _<_, _≤_}
 use native.Mathlib.Omega.{arith}
@@ -9,13 +9,11 @@ use borrow.Author.Tests.{ne-eqb, eqb-true, leb-true, leb-false}
 use lib.Dec.{leb, eqb, eqb·zero-suc, eqb·suc-zero, eqb·suc-suc}
 use lib.ListN.{length, getD, take, drop, length-drop, List·getD-eq-default}
 use lib.Seq.{getD-drop, drop-drop}
+use Rattle.whole.proofs.Tests.{and-both}
 use Rattle.rules.specs.Bytes.{byteAt}
 use Rattle.rules.specs.Frames.{newline, digit, allDigits, unhex, TextLine, whole, torn, before, linesOf, isFrame, frameOf}
 use Rattle.frames.specs.Line.{pair, startsLine, startsFrame}
-use Rattle.frames.proofs.Digits.{and-left, and-right, isDigit, frame-is}
-
-no : false ≡ true → ⊥
-no e = let n : _≡_ {A = ℕ} 0 1 = cc in omega arith
+use Rattle.frames.proofs.Digits.{isDigit, frame-is}
 
 -- the newline after the digits is a byte of the text
 starts-room : (j : ℕ) (t : List ℕ) → startsLine j t ≡ true → j < length t
@@ -23,7 +21,7 @@ unfolding startsLine
 starts-room j t h = go (leb (length t) j) refl
   where
     e : getD t j 0 ≡ 10
-    e = eqb-true _ 10 (and-right (allDigits (take j t)) _ h)
+    e = eqb-true _ 10 (and-both (allDigits (take j t)) _ h .1)
 
     go : (b : Bool) → leb (length t) j ≡ b → j < length t
     go true q = let z : getD t j 0 ≡ 0 = List·getD-eq-default t 0 (leb-true _ _ q) in absurd (omega (arith, e))
@@ -51,11 +49,11 @@ module _ (s : List ℕ) (at kind digits : ℕ) where
 
   pub frame-room : startsFrame kind digits (drop at s) ≡ true → at + digits < length s
   unfolding startsFrame
-  frame-room h = omega (arith, starts-room digits (drop at s) (and-left (startsLine digits (drop at s)) _ h), length-drop at s)
+  frame-room h = omega (arith, starts-room digits (drop at s) (and-both (startsLine digits (drop at s)) _ h .0), length-drop at s)
 
   pub frame-digits : startsFrame kind digits (drop at s) ≡ true → allDigits (take digits (drop at s)) ≡ true
   unfolding startsFrame startsLine
-  frame-digits h = and-left (allDigits (take digits (drop at s))) _ (and-left (startsLine digits (drop at s)) _ h)
+  frame-digits h = and-both (allDigits (take digits (drop at s))) _ (and-both (startsLine digits (drop at s)) _ h .0) .0
 
 -- ---- the same of the first line
 -- it has so many digits and nothing else
@@ -105,24 +103,24 @@ first-has (suc j) (b ∷ t) = go (first-has j t) (eqb b newline) refl
 -- .. and then it is those digits, and the other lines are those of what follows
 first-line : (j : ℕ) (t : List ℕ) → startsLine j t ≡ true → linesOf t ≡ whole (take j t) ∷ linesOf (drop (suc j) t)
 unfolding linesOf startsLine digit
-first-line zero [] h = absurd (no h)
-first-line (suc j) [] h = absurd (no h)
+first-line zero [] h = absurd (false≢true h)
+first-line (suc j) [] h = absurd (false≢true h)
 first-line zero (b ∷ t) h = go (eqb b newline) h
   where
     go : (e : Bool) → e ≡ true → elim e [ true ↦ whole [] ∷ linesOf t | false ↦ before b (linesOf t) ] ≡ whole [] ∷ linesOf t
     go true e = refl
-    go false e = absurd (no e)
+    go false e = absurd (false≢true e)
 first-line (suc j) (b ∷ t) h = go (first-line j t rest) (eqb b newline) refl
   where
     digit-first : isDigit b ≡ true
-    digit-first = and-left (isDigit b) _ (and-left (isDigit b && allDigits (take j t)) _ h)
+    digit-first = and-both (isDigit b) _ (and-both (isDigit b && allDigits (take j t)) _ h .0) .0
 
     rest : startsLine j t ≡ true
-    rest = and-right (isDigit b) _ (sym (and-assoc (isDigit b) (allDigits (take j t)) (eqb (getD t j 0) newline)) ∙ h)
+    rest = and-both (isDigit b) _ (sym (and-assoc (isDigit b) (allDigits (take j t)) (eqb (getD t j 0) newline)) ∙ h) .1
 
     go : linesOf t ≡ whole (take j t) ∷ linesOf (drop (suc j) t) → (e : Bool) → eqb b newline ≡ e
         → elim e [ true ↦ whole [] ∷ linesOf t | false ↦ before b (linesOf t) ] ≡ whole (b ∷ take j t) ∷ linesOf (drop (suc j) t)
-    go i true e = let f : b ≡ 10 = eqb-true b 10 e in absurd (no (rw f at digit-first))
+    go i true e = let f : b ≡ 10 = eqb-true b 10 e in absurd (false≢true (rw f at digit-first))
     go i false e = ap (before b) i
 
 -- ---- a line at a place
@@ -159,7 +157,7 @@ pub good-line : (kind count j k : ℕ) → 1 ≤ count → j ≡ 2 * count → k
     → (isFrame kind count (whole (take j (drop p s))) ≡ true) × (linesOf (drop p s) ≡ whole (take j (drop p s)) ∷ linesOf (drop (p + k) s))
 unfolding startsFrame
 good-line kind count j k some even after s p g =
-    let h = and-left (startsLine j (drop p s)) _ g in (
-      first-is kind count j some even (drop p s) h ∙ and-right (startsLine j (drop p s)) _ g,
+    let h = and-both (startsLine j (drop p s)) _ g .0 in (
+      first-is kind count j some even (drop p s) h ∙ and-both (startsLine j (drop p s)) _ g .1,
       rw after (first-line j (drop p s) h ∙ ap (λ (t : List ℕ). whole (take j (drop p s)) ∷ linesOf t) (drop-drop (suc j) p s)),
     )

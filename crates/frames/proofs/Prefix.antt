@@ -2,7 +2,7 @@
 -- those bytes decide which line is refused.
 -- Assumes nothing.
 use mathlib.Core.Path.{_≡_, refl, sym, ap, _∙_}
-use mathlib.Core.Bool.{Bool, true, false, _&&_}
+use mathlib.Core.Bool.{Bool, true, false}
 use mathlib.Core.List.{List, [], _∷_}
 use Prim.Native.Nat.{ℕ, zero, suc, _+_, _-_, _*_, _<_, _≤_}
 use native.Mathlib.Nat.{sub-zero, mul-le-mul, suc-mul}
@@ -14,8 +14,8 @@ use lib.Seq.{take-all, take-nil, take-take, getD-take, length-take-le}
 use Rattle.rules.specs.Limits.{sizesInRange}
 use Rattle.rules.specs.Search.{found}
 use Rattle.rules.specs.Frames.{linesOf, firstBad, Reading, unread, formed, sized, readingOf, answerTo, program}
+use Rattle.theory.proofs.Accepted.{sizes-passed}
 use Rattle.frames.specs.Line.{pair, startsLine, startsFrame}
-use Rattle.frames.proofs.Digits.{and-left, and-right}
 use Rattle.frames.proofs.FirstBad.{row-passes, row-stops, term-passes, term-stops, full-stops}
 use Rattle.frames.proofs.Progress.{first-off, first-on}
 
@@ -102,9 +102,8 @@ sized-alike m n l t h k = go (sizesInRange m n) refl
     go : (b : Bool) → sizesInRange m n ≡ b → out b (take l t) ≡ out b t
     go false e = refl
     go true e =
-        let few-rows = leb-true m 8 (and-right (leb 1 m) _ (and-left (leb 1 m && leb m 8) _ e)) in
-        let few-columns = leb-true n 16 (and-right (leb 1 n) _ (and-right (leb 1 m && leb m 8) _ e)) in
-        let room : m * (7 + 4 * n) ≤ 568 = mul-le-mul {n₂ = 8} {m₂ = 71} few-rows (omega arith) in
+        let z = sizes-passed m n e in
+        let room : m * (7 + 4 * n) ≤ 568 = mul-le-mul {n₂ = 8} {m₂ = 71} (z .m-high) (omega (arith, z .n-high)) in
         let bad = bad-alike n m 64 1 l t (omega arith) k in
         rw (bad .whole-text, bad .first-part)
 

@@ -1,9 +1,9 @@
 -- The printed lines: how long they are, and what one number, one row, one term more adds to them.
 -- Assumes nothing.
-use mathlib.Core.Path.{_≡_, refl, sym, ap, _∙_, subst}
+use mathlib.Core.Path.{_≡_, refl, sym, ap, _∙_}
 use mathlib.Core.List.{List, [], _∷_, _++_, append-nil, append-assoc}
 use Prim.Native.Nat.{ℕ, zero, suc, _+_, _*_, _/_, _%_, _<_, _≤_}
-use native.Mathlib.Nat.{suc-mul, zero-mul, mul-le-mul, le-refl}
+use native.Mathlib.Nat.{suc-mul, zero-mul, le-refl}
 use native.Mathlib.Numerals.{add-one}
 use native.Mathlib.Omega.{arith}
 use lib.ListN.{length, getD, take, drop, set, length-append, length-drop}
@@ -11,9 +11,11 @@ use lib.Seq.{length-take-le, take-suc, take-append-le, drop-append-le, getD-drop
 use lib.IntN.{ℤ, pos}
 use mir.Syntax.{w32}
 use mir.Val.{ofZ}
+use Rattle.whole.proofs.Order.{row-within}
 use Rattle.rules.specs.Calls.{filled}
-use Rattle.rules.specs.Bytes.{byte, fourBytes, bytesOf}
+use Rattle.rules.specs.Bytes.{byte, bytesOf}
 use Rattle.rules.specs.Frames.{digitOf, hex, frame, rowLines, termLines}
+use Rattle.theory.proofs.Bytes.{length-bytes, bytes-append}
 use Rattle.frames.specs.Output.{Wrote, rowText, termText}
 use Rattle.frames.proofs.Writes.{hex-append, wrote-both, wrote-hex, wrote-length, wrote-two}
 
@@ -45,26 +47,17 @@ unfolding frame
 frame-length bs = length-append (hex bs) (10 ∷ []) ∙ omega (arith, hex-length bs)
 
 -- ---- numbers
-bytes-length : (zs : List ℤ) → length (bytesOf zs) ≡ 4 * length zs
-unfolding bytesOf
-bytes-length [] = refl
-bytes-length (z ∷ zs) = let i = bytes-length zs in omega arith
 
 pub number-bytes : (z : ℤ) (x a b c d : ℕ) → x ≡ ofZ w32 z → a ≡ x / 16777216 % 256 → b ≡ x / 65536 % 256 → c ≡ x / 256 % 256 → d ≡ x % 256 → a ∷ b ∷ c ∷ d ∷ [] ≡ bytesOf (z ∷ [])
 unfolding bytesOf
 number-bytes z x a b c d e f g h i = rw (f, g, h, i, e)
-
-bytes-append : (xs ys : List ℤ) → bytesOf (xs ++ ys) ≡ bytesOf xs ++ bytesOf ys
-unfolding bytesOf
-bytes-append [] ys = refl
-bytes-append (x ∷ xs) ys = ap (λ (bs : List ℕ). fourBytes (ofZ w32 x) ++ bs) (bytes-append xs ys)
 
 part-length : (zs : List ℤ) (from k : ℕ) → from + k ≤ length zs → length (take k (drop from zs)) ≡ k
 part-length zs from k h = length-take-le k (drop from zs) (omega (arith, length-drop from zs))
 
 pub digits-length : (zs : List ℤ) (from k : ℕ) → from + k ≤ length zs → length (hex (bytesOf (take k (drop from zs)))) ≡ 8 * k
 digits-length zs from k h =
-    omega (arith, hex-length (bytesOf (take k (drop from zs))), bytes-length (take k (drop from zs)), part-length zs from k h)
+    omega (arith, hex-length (bytesOf (take k (drop from zs))), length-bytes (take k (drop from zs)), part-length zs from k h)
 
 -- one number more
 module _ {d e : List ℕ} {at p : ℕ} (zs : List ℤ) (from k count : ℕ) (h : k < count) (l : from + count ≤ length zs) (room : at + 8 * count ≤ length d)
@@ -81,17 +74,13 @@ module _ {d e : List ℕ} {at p : ℕ} (zs : List ℤ) (from k count : ℕ) (h :
       let n : k < length (drop from zs) = omega (arith, length-drop from zs) in
       let t : bytesOf (take (k + 1) (drop from zs)) ≡ bytesOf (take k (drop from zs)) ++ bytesOf (z ∷ [])
       = ap bytesOf (rw (add-one, g, ← getD-drop) (take-suc (drop from zs) k (pos 0) n)) ∙ bytes-append (take k (drop from zs)) (z ∷ []) in
-      rw t (wrote-hex (bytesOf (take k (drop from zs))) (bytesOf (z ∷ [])) x y (omega (arith, digits-length zs from k (omega arith), hex-length (bytesOf (z ∷ [])), bytes-length (z ∷ []))))
-
--- a row after i of count rows
-step-room : (i n count : ℕ) → i < count → i * n + n ≤ count * n
-step-room i n count h = subst (λ (x : ℕ). x ≤ count * n) (suc-mul i n) (mul-le-mul h (le-refl n))
+      rw t (wrote-hex (bytesOf (take k (drop from zs))) (bytesOf (z ∷ [])) x y (omega (arith, digits-length zs from k (omega arith), hex-length (bytesOf (z ∷ [])), length-bytes (z ∷ []))))
 
 -- ---- rows
 row-length : (kind width : ℕ) (zs : List ℤ) (from : ℕ) → from + width ≤ length zs → length (rowText kind (take width (drop from zs))) ≡ 3 + 8 * width
 unfolding rowText
 row-length kind width zs from h =
-    frame-length (byte kind ++ bytesOf (take width (drop from zs))) ∙ omega (arith, bytes-length (take width (drop from zs)), part-length zs from width h)
+    frame-length (byte kind ++ bytesOf (take width (drop from zs))) ∙ omega (arith, length-bytes (take width (drop from zs)), part-length zs from width h)
 
 rows-more : (kind i width : ℕ) (zs : List ℤ) → rowLines kind (suc i) width zs ≡ rowLines kind i width zs ++ rowText kind (take width (drop (i * width) zs))
 unfolding rowLines rowText
@@ -115,12 +104,12 @@ rows-length kind (suc i) width zs h =
 module _ {d e : List ℕ} {at p : ℕ} (kind i count width : ℕ) (zs : List ℤ) (h : i < count) (l : count * width ≤ length zs) (room : at + count * (3 + 8 * width) ≤ length d)
     (x : Wrote d e at (rowLines kind i width zs) p) where
   pub row-inside : i * width + width ≤ length zs
-  row-inside = let a = step-room i width count h in omega arith
+  row-inside = let a = row-within i width count width h (le-refl _) in omega arith
 
   pub row-room : p + (3 + 8 * width) ≤ length e
   row-room =
       let a = row-inside in
-      let b = step-room i (3 + 8 * width) count h in
+      let b = row-within i (3 + 8 * width) count (3 + 8 * width) h (le-refl _) in
       let t = rows-length kind i width zs (omega arith) in
       let n = wrote-length x (omega arith) in
       omega (arith, x .next-is)
@@ -128,14 +117,14 @@ module _ {d e : List ℕ} {at p : ℕ} (kind i count width : ℕ) (zs : List ℤ
   pub row-again : {f : List ℕ} {q : ℕ} → Wrote e f p (rowText kind (take width (drop (i * width) zs))) q → Wrote d f at (rowLines kind (i + 1) width zs) q
   row-again y =
       let a = row-inside in
-      let b = step-room i (3 + 8 * width) count h in
+      let b = row-within i (3 + 8 * width) count (3 + 8 * width) h (le-refl _) in
       rw (add-one, rows-more) (wrote-both x y (omega (arith, rows-length kind i width zs (omega arith), row-length kind width zs (i * width) (omega arith))))
 
 -- ---- terms
 term-length : (z : ℤ) (d : ℕ) (es : List ℤ) (from : ℕ) → from + d ≤ length es → length (termText z (take d (drop from es))) ≡ 11 + 8 * d
 unfolding termText
 term-length z d es from h =
-    frame-length (byte 0x85 ++ bytesOf (z ∷ take d (drop from es))) ∙ omega (arith, bytes-length (z ∷ take d (drop from es)), part-length es from d h)
+    frame-length (byte 0x85 ++ bytesOf (z ∷ take d (drop from es))) ∙ omega (arith, length-bytes (z ∷ take d (drop from es)), part-length es from d h)
 
 terms-more : (d : ℕ) (cs : List ℤ) (z : ℤ) (es : List ℤ) → termLines d (cs ++ z ∷ []) es ≡ termLines d cs es ++ termText z (take d (drop (length cs * d) es))
 unfolding termLines termText
@@ -159,7 +148,7 @@ terms-length d (c ∷ cs) es h =
 module _ {a b : List ℕ} {at p : ℕ} (d i count : ℕ) (cs es : List ℤ) (h : i < count) (l : count ≤ length cs) (m : count * d ≤ length es) (room : at + count * (11 + 8 * d) ≤ length a)
     (x : Wrote a b at (termLines d (take i cs) es) p) where
   pub term-inside : i * d + d ≤ length es
-  term-inside = let r = step-room i d count h in omega arith
+  term-inside = let r = row-within i d count d h (le-refl _) in omega arith
 
   text-length : length (termLines d (take i cs) es) ≡ i * (11 + 8 * d)
   text-length =
@@ -169,7 +158,7 @@ module _ {a b : List ℕ} {at p : ℕ} (d i count : ℕ) (cs es : List ℤ) (h :
 
   pub term-room : p + (11 + 8 * d) ≤ length b
   term-room =
-      let r = step-room i (11 + 8 * d) count h in
+      let r = row-within i (11 + 8 * d) count (11 + 8 * d) h (le-refl _) in
       let t = text-length in
       let n = wrote-length x (omega arith) in
       omega (arith, x .next-is)
@@ -177,7 +166,7 @@ module _ {a b : List ℕ} {at p : ℕ} (d i count : ℕ) (cs es : List ℤ) (h :
   pub term-again : {c : List ℕ} {q : ℕ} (z : ℤ) → z ≡ getD cs i (pos 0) → Wrote b c p (termText z (take d (drop (i * d) es))) q
       → Wrote a c at (termLines d (take (i + 1) cs) es) q
   term-again {c} {q} z g y =
-      let r = step-room i (11 + 8 * d) count h in
+      let r = row-within i (11 + 8 * d) count (11 + 8 * d) h (le-refl _) in
       let u = term-inside in
       let n : i < length cs = omega arith in
       let e = length-take-le i cs (omega arith) in

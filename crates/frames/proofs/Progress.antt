@@ -1,20 +1,19 @@
 -- Where the reading stands after some lines, and what the next line does.
 -- Assumes nothing.
 use mathlib.Core.Path.{_≡_, refl, sym, ap, _∙_, subst}
-use mathlib.Core.Bool.{true, false, _&&_}
+use mathlib.Core.Bool.{true, false}
 use mathlib.Core.List.{List, [], _∷_, _++_, append-nil, append-assoc}
 use Prim.Native.Nat.{ℕ, suc, _+_, _-_, _*_, _<_, _≤_}
 use native.Mathlib.Omega.{arith}
-use borrow.Author.Tests.{leb-true}
-use lib.Dec.{leb}
 use lib.ListN.{length, take, drop, length-drop, drop-of-length-le}
 use lib.Seq.{take-at, drop-at, drop-drop}
 use Rattle.rules.specs.Limits.{sizesInRange}
 use Rattle.rules.specs.Frames.{unhex, TextLine, whole, linesOf, isFrame, isRow, isTerm, frameOf, firstBad, Reading, unread, read, contentsOf, formed, sized, readingOf}
+use Rattle.theory.proofs.Accepted.{sizes-passed}
 use Rattle.frames.specs.declared.read.Input.{Input}
 use Rattle.frames.specs.Line.{pair, startsFrame}
 use Rattle.frames.specs.Input.{problemIn, formulaIn, Holds, refuses, takes, empty, withRow, withTerm, RowAsks, TermAsks}
-use Rattle.frames.proofs.Digits.{and-left, and-right, frame-is}
+use Rattle.frames.proofs.Digits.{frame-is}
 use Rattle.frames.proofs.Lines.{frame-room, frame-digits, firstIs, bad-line, good-line}
 use Rattle.frames.proofs.FirstBad.{row-passes, row-stops, term-passes, term-stops, full-stops}
 use Rattle.frames.proofs.Stored.{count-more}
@@ -222,16 +221,15 @@ module _ (s : List ℕ) where
     pub sizes-on : sizesInRange m n ≡ true → {x : Input} → x ≡ empty 0 0 m n → Past s m n 0 0 7 x
     unfolding sized
     sizes-on h e =
-        let rows-in = and-left (leb 1 m && leb m 8) _ h in
-        let columns-in = and-right (leb 1 m && leb m 8) _ h in
+        let z = sizes-passed m n h in
         let room = frame-room s 0 1 6 g in
         let u : 1 + 0 + 0 ≡ 1 = omega arith in
         let v : m - 0 ≡ m = omega arith in
         record {
-          some-rows = leb-true 1 m (and-left (leb 1 m) _ rows-in);
-          few-rows = leb-true m 8 (and-right (leb 1 m) _ rows-in);
-          some-columns = leb-true 1 n (and-left (leb 1 n) _ columns-in);
-          few-columns = leb-true n 16 (and-right (leb 1 n) _ columns-in);
+          some-rows = z .m-low;
+          few-rows = z .m-high;
+          some-columns = z .n-low;
+          few-columns = z .n-high;
           rows-behind = omega arith;
           terms-behind = omega arith;
           inside = omega arith;

@@ -17,6 +17,8 @@ use Rattle.rules.specs.Formulas.{d, terms}
 use Rattle.rules.specs.Calls.{Verdict, taken, refused, translateVerdict, buildVerdict, problemFits, formulaFits, contentsH, contentsV, contentsW, translatedExponents, Built, built, buildOf, Translated, translatedTo, translateOf}
 use Rattle.rules.specs.Frames.{rowLines, termLines, sizesLine, printed, answered, refusalLine}
 use Rattle.scaling.specs.Answers.{Builds, Translates}
+use Rattle.theory.proofs.Grid.{length-grid}
+use Rattle.theory.proofs.Refusals.{build-taken, translate-not-0}
 use Rattle.scaling.specs.declared.BuildAnswer.{BuildAnswer}
 use Rattle.scaling.specs.declared.TranslateAnswer.{TranslateAnswer}
 use Rattle.frames.specs.declared.read.Input.{Input}
@@ -24,8 +26,7 @@ use Rattle.frames.specs.declared.solve.Sizes.{Sizes}
 use Rattle.frames.specs.Input.{Sized, problemIn, formulaIn}
 use Rattle.frames.specs.Output.{Room, solutionText, sizesText, IsTranslated}
 use Rattle.frames.proofs.Printed.{rows-same, terms-front}
-use Rattle.frames.proofs.Fits.{grid-length, filled-room, few-moduli, coefficients-length, problem-fits, formula-fits}
-use Rattle.frames.proofs.Verdicts.{build-taken, translate-not-zero}
+use Rattle.frames.proofs.Fits.{filled-room, few-moduli, coefficients-length, problem-fits, formula-fits}
 
 module _ (x : Input) (z : Sized x) where
   -- ---- the translation
@@ -55,7 +56,7 @@ module _ (x : Input) (z : Sized x) where
       where
         go : (v : Verdict) → translateVerdict (problemIn x) (formulaIn x) true true ≡ v → Translates (translatedTo (problemIn x) (formulaIn x) kept₀ translated₀ v) t kept translated → v ≡ taken
         go taken e y = refl
-        go (refused number place) e y = absurd (translate-not-zero (problemIn x) (formulaIn x) number place e (sym (y .number) ∙ n))
+        go (refused number place) e y = absurd (translate-not-0 (problemIn x) true true (formulaIn x) number place e (sym (y .number) ∙ n))
 
     pub is-translated : t .number ≡ 0 → length translated ≡ 1024 → IsTranslated (problemIn x) (formulaIn x) (t .d) kept translated
     is-translated n room =
@@ -82,12 +83,12 @@ module _ (x : Input) (z : Sized x) where
         = ap₂ _&&_ (ap₂ _&&_ (le-leb 192 (length h₀) (omega arith)) (le-leb 576 (length v₀) (omega arith))) (le-leb 576 (length w₀) (omega arith)) in
         let e : buildOf (problemIn x) h₀ v₀ w₀ ≡ built (problemIn x) h₀ v₀ w₀ taken
         = ap₂ (λ (i o : Bool). built (problemIn x) h₀ v₀ w₀ (buildVerdict (problemIn x) i o)) (problem-fits x z) outputs
-        ∙ ap (built (problemIn x) h₀ v₀ w₀) (build-taken (problemIn x) (formulaIn x) (t .verdict)) in
+        ∙ ap (built (problemIn x) h₀ v₀ w₀) (build-taken (problemIn x) true true (formulaIn x) (t .verdict)) in
         subst (λ (r : Built). Builds r b h v w) e y
 
     translated-length : length (translatedExponents (problemIn x) (formulaIn x)) ≡ terms (formulaIn x) * d (problemIn x) (run (problemIn x))
     unfolding translatedExponents
-    translated-length = grid-length (terms (formulaIn x)) (d (problemIn x) (run (problemIn x))) _
+    translated-length = length-grid (terms (formulaIn x)) (d (problemIn x) (run (problemIn x))) _
 
     abbrev sizes : Sizes
     sizes = record { m = x .m; n = x .n; s = b .moduli; r = b .rank; steps = b .steps; d = groups; terms = x .terms }
@@ -121,15 +122,15 @@ module _ (x : Input) (z : Sized x) where
 
     h-same : rowLines 0x82 (x .m) (x .n + b .moduli) h ≡ rowLines 0x82 (x .m) (N (problemIn x)) (contentsH (problemIn x))
     unfolding contentsH
-    h-same = rw columns-are (rows-same 0x82 (x .m) (N (problemIn x)) (contentsH (problemIn x)) h₀ h (grid-length (x .m) (N (problemIn x)) _) (build-is .h))
+    h-same = rw columns-are (rows-same 0x82 (x .m) (N (problemIn x)) (contentsH (problemIn x)) h₀ h (length-grid (x .m) (N (problemIn x)) _) (build-is .h))
 
     v-same : rowLines 0x83 (x .n + b .moduli) (x .n + b .moduli) v ≡ rowLines 0x83 (N (problemIn x)) (N (problemIn x)) (contentsV (problemIn x))
     unfolding contentsV
-    v-same = rw columns-are (rows-same 0x83 (N (problemIn x)) (N (problemIn x)) (contentsV (problemIn x)) v₀ v (grid-length (N (problemIn x)) (N (problemIn x)) _) (build-is .v))
+    v-same = rw columns-are (rows-same 0x83 (N (problemIn x)) (N (problemIn x)) (contentsV (problemIn x)) v₀ v (length-grid (N (problemIn x)) (N (problemIn x)) _) (build-is .v))
 
     w-same : rowLines 0x84 (x .n + b .moduli) (x .n + b .moduli) w ≡ rowLines 0x84 (N (problemIn x)) (N (problemIn x)) (contentsW (problemIn x))
     unfolding contentsW
-    w-same = rw columns-are (rows-same 0x84 (N (problemIn x)) (N (problemIn x)) (contentsW (problemIn x)) w₀ w (grid-length (N (problemIn x)) (N (problemIn x)) _) (build-is .w))
+    w-same = rw columns-are (rows-same 0x84 (N (problemIn x)) (N (problemIn x)) (contentsW (problemIn x)) w₀ w (length-grid (N (problemIn x)) (N (problemIn x)) _) (build-is .w))
 
     terms-same : termLines groups (take (x .terms) kept) translated ≡ termLines (d (problemIn x) (run (problemIn x))) (formulaIn x .coefficients) (translatedExponents (problemIn x) (formulaIn x))
     terms-same =

@@ -1,10 +1,10 @@
 -- The numbers of lines at the front of an array, when one line more is put there; and an array filled number by number.
 -- Assumes nothing.
-use mathlib.Core.Path.{_≡_, refl, sym, ap, ap₂, _∙_, subst}
+use mathlib.Core.Path.{_≡_, refl, sym, ap, ap₂, _∙_}
 use mathlib.Core.Bool.{true}
 use mathlib.Core.List.{List, [], _∷_, _++_, map, append-nil, append-assoc}
 use Prim.Native.Nat.{ℕ, suc, _+_, _*_, _<_, _≤_}
-use native.Mathlib.Nat.{suc-mul, mul-le-mul}
+use native.Mathlib.Nat.{suc-mul}
 use native.Mathlib.Numerals.{add-one}
 use native.Mathlib.Omega.{arith}
 use lib.ListN.{length, getD, take, drop, set, length-append}
@@ -61,7 +61,3 @@ module _ (a : List ℤ) (from : ℕ) (s : List ℕ) (at count k : ℕ) where
       let g : z ≡ getD (shorts count (unhex (2 * count) (drop at s))) k (pos 0)
       = f ∙ sym (shorts-at count (2 * count) k (drop at s) (pos 0) (omega arith) h ∙ ap (λ (t : List ℕ). short (unhex 2 t)) (drop-drop (4 * k) at s)) in
       rw (e, g, add-one) (paste-suc a from (shorts count (unhex (2 * count) (drop at s))) k (pos 0) (omega arith) (omega arith))
-
--- a row after i of at most a rows, each of at most b
-pub row-room : (i n a b : ℕ) → i < a → n ≤ b → i * n + n ≤ a * b
-row-room i n a b h l = subst (λ (x : ℕ). x ≤ a * b) (suc-mul i n) (mul-le-mul h l)

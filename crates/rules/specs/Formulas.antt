@@ -2,15 +2,15 @@
 use mathlib.Core.Path.{_≡_}
 use mathlib.Core.Bool.{Bool, true, false, not}
 use mathlib.Core.List.{List}
-use Prim.Native.Nat.{ℕ, _+_, _-_, _*_, _<_}
+use Prim.Native.Nat.{ℕ, _+_, _-_, _*_, _≤_, _<_}
 use lib.Dec.{ltb}
 use lib.ListN.{length, getD}
-use lib.IntN.{ℤ, pos, _*ℤ_}
+use lib.IntN.{ℤ, pos, natAbs, _*ℤ_}
 use lib.Signed.{quotZ, remZ}
 use Rattle.whole.specs.Lists.{nth}
 use Rattle.whole.specs.Sum.{sum}
 use Rattle.whole.specs.Matrix.{Matrix}
-use Rattle.rules.specs.Limits.{isZero, beyond}
+use Rattle.rules.specs.Limits.{isZero, beyond, mostTerms}
 use Rattle.rules.specs.Search.{Found, none, found, first}
 use Rattle.rules.specs.Problem.{Problem, entry, modulus, modulusRows, s, N}
 use Rattle.rules.specs.Stages.{Run, U, W}
@@ -73,6 +73,12 @@ terms f = length (f .coefficients)
 -- the exponents of term t
 abbrev pub term : Problem → Formula → (t : ℕ) → ℕ → ℤ
 term P f t j = nth (f .exponents) (t * P .n + j)
+
+-- "a formula has 0 to 64 terms; formula exponents -10,000 to 10,000", with n exponents for each term. Past the end of the list nth is 0.
+pub record WellFormedFormula (P : Problem) (f : Formula) : Type 0 where
+  pub few : terms f ≤ mostTerms
+  pub fits : length (f .exponents) ≡ terms f * P .n
+  pub small : (i : ℕ) → natAbs (nth (f .exponents) i) ≤ 10_000
 
 -- whether a translated exponent is beyond M
 unfoldable pub passes : Problem → Run → (v : ℕ → ℤ) → Bool

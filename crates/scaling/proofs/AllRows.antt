@@ -6,7 +6,7 @@ use Prim.Native.Nat.{ℕ, suc, _+_, _*_, _-_, _≤_, _<_}
 use native.Mathlib.Omega.{arith}
 use Rattle.rules.specs.Search.{smallest}
 use Rattle.rules.specs.Stages.{Progress, row, rows}
-use Rattle.theory.proofs.ExtraTests.{true-not-false}
+use Rattle.whole.proofs.Tests.{true-not-false}
 use Rattle.theory.proofs.Search.{In, smallest-cong}
 use Rattle.theory.proofs.Loops.{rows-end, rows-step, row-pass}
 use Rattle.theory.proofs.Flag.{rows-over}
@@ -14,7 +14,7 @@ use Rattle.scaling.specs.declared.work.Work.{Work}
 use Rattle.scaling.specs.Join.{Fine, tableFor, entriesFor, heightFor}
 use Rattle.scaling.specs.Scan.{sizes}
 use Rattle.scaling.specs.Rows.{sizesIn, perRow, progress, RowBegun, RowDone, RowsBegun, RowsDone}
-use Rattle.scaling.proofs.Hits.{smallest-there, smallest-nowhere}
+use Rattle.theory.proofs.Search.{smallest-there, smallest-nowhere}
 use Rattle.scaling.proofs.State.{state-size, Long}
 use Rattle.scaling.proofs.Tracking.{over-tracks, same-tracks}
 use Rattle.scaling.proofs.RowScan.{Best}

@@ -9,12 +9,12 @@ use lib.ListN.{length}
 use lib.IntN.{ℤ}
 use borrow.Author.Tests.{leb-true}
 use Rattle.rules.specs.Limits.{roomH, roomV, roomW}
-use Rattle.rules.specs.Problem.{Problem}
+use Rattle.rules.specs.Problem.{Problem, WellFormed}
 use Rattle.rules.specs.Stages.{run}
 use Rattle.rules.specs.Calls.{Check, verdict, rangeCheck, problemFits, buildVerdict, buildOf, built}
-use Rattle.theory.proofs.MoreTests as Tests
+use Rattle.whole.proofs.Tests.{and-both}
 use Rattle.scaling.specs.declared.BuildAnswer.{BuildAnswer}
-use Rattle.scaling.specs.Problem.{problemOf, WellFormed}
+use Rattle.scaling.specs.Problem.{problemOf}
 use Rattle.scaling.specs.Checks.{Says, given, problemChecks}
 use Rattle.scaling.specs.Answers.{Builds, RoomToBuild}
 use Rattle.scaling.proofs.Verdicts.{goes-on, stays, says-taken, says-refused, Passed, problem-passed}
@@ -60,8 +60,8 @@ module _ {m n : ℕ} {matrix moduli h v w : List ℤ} {outputs : Bool} {number p
 
     pub room-to-build : RoomToBuild h v w
     room-to-build =
-        let all = Tests.and-true (leb roomH (length h)) (leb roomV (length v) && leb roomW (length w)) (sym (k .room) ∙ passed .room) in
-        let rest = Tests.and-true (leb roomV (length v)) (leb roomW (length w)) (all .1) in
+        let all = and-both (leb roomH (length h)) (leb roomV (length v) && leb roomW (length w)) (sym (k .room) ∙ passed .room) in
+        let rest = and-both (leb roomV (length v)) (leb roomW (length w)) (all .1) in
         record { h = leb-true roomH (length h) (all .0); v = leb-true roomV (length v) (rest .0); w = leb-true roomW (length w) (rest .1) }
 
     pub build-passed : {r : BuildAnswer} {h₁ v₁ w₁ : List ℤ}

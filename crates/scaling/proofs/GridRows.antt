@@ -9,8 +9,9 @@ use lib.Seq.{take-at, drop-append-add, drop-drop}
 use lib.IntN.{ℤ}
 use Rattle.whole.specs.Lists.{tab}
 use Rattle.whole.specs.Matrix.{Matrix}
+use Rattle.whole.proofs.Lists.{tab-cong}
 use Rattle.rules.specs.Calls.{grid}
-use Rattle.theory.proofs.MoreLists.{tab-cong, length-grid}
+use Rattle.theory.proofs.Grid.{length-grid}
 use Rattle.scaling.specs.Terms.{written}
 use Rattle.scaling.proofs.Filling.{join-more}
 

@@ -8,11 +8,11 @@ use lib.ListN.{length, getD, set, replicate, length-set}
 use lib.Seq.{getD-set-same, getD-set-other}
 use lib.IntN.{ℤ, pos, natAbs}
 use Rattle.whole.specs.Lists.{nth}
-use Rattle.rules.specs.Problem.{s}
+use Rattle.whole.proofs.Order.{non-zero-size}
+use Rattle.rules.specs.Problem.{s, WellFormed}
 use Rattle.theory.proofs.ModulusRows.{modulus-row-within, modulus-not-zero}
-use Rattle.theory.proofs.MoreNumbers.{non-zero-size}
 use Rattle.scaling.specs.declared.run.ModulusRows.{ModulusRows}
-use Rattle.scaling.specs.Problem.{problemOf, WellFormed, Lists}
+use Rattle.scaling.specs.Problem.{problemOf, Lists}
 use Rattle.scaling.specs.Terms.{Modulus}
 
 -- the first count entries are those of f

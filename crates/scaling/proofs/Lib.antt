@@ -1,21 +1,18 @@
 -- The proofs of the functions stand beside this file, in folders that mirror src/. The general modules, each standing on those above it:
 -- ---- the column steps
 --     Values        single values: what fits, what is stored, what a test says, the floored quotient by signs
---     Loops         the searches of the definitions, index by index
 --     Places        places in a flat list: which are apart, which are in it, where a turned entry stood
 --     Turns         what the lists of specs/Flat hold after their turns
 --     Picks         the lines of a flat list before and after a loop, and what an addition's flag says
 --     State         the code's state read as the definition's: its lines, its entries, the bounds of its places
 --     Steps         the three steps and the reordering of the code are the definition's
 pub mod Values
-pub mod Loops
 pub mod Places
 pub mod Turns
 pub mod Picks
 pub mod State
 pub mod Steps
 -- ---- the stages
---     Hits          what a search has found is there, what it has not found is nowhere
 --     TableRow      a row of the table that a stage looks at, in the flat list: where it lies, its entries, their size
 --     Tracking      how an addition counts, and the two ways in which a state tracks one
 --     Searched      (A)'s two searches by the code, and what (A) does next
@@ -26,7 +23,6 @@ pub mod Steps
 --     RowScan       the scan of a row for its smallest entry
 --     AllRows       all rows of a stage
 --     ThirdStage    stage 3
-pub mod Hits
 pub mod TableRow
 pub mod Tracking
 pub mod Searched

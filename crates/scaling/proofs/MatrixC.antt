@@ -13,11 +13,12 @@ use lib.IntN.{ℤ, pos, negℤ, natAbs}
 use Rattle.whole.specs.Lists.{nth, tab}
 use Rattle.whole.proofs.Tests.{Test, pass, fail, lt?}
 use Rattle.whole.proofs.Order.{abs-neg}
-use Rattle.rules.specs.Problem.{Problem, modulus, s, N, C}
-use Rattle.theory.proofs.ModulusRows.{modulusRow, s-le-m}
+use Rattle.rules.specs.Problem.{Problem, modulus, s, N, C, WellFormed}
+use Rattle.theory.proofs.ModulusRows.{modulusRow}
+use Rattle.theory.proofs.Sizes.{N-le-24}
 use Rattle.theory.proofs.Shape.{modulus-column-at, modulus-column-else, quantity-column-at}
 use Rattle.scaling.specs.Flat.{keep}
-use Rattle.scaling.specs.Problem.{WellFormed, InC, HoldsC}
+use Rattle.scaling.specs.Problem.{InC, HoldsC}
 use Rattle.scaling.proofs.Values.{kept}
 use Rattle.scaling.proofs.Filling.{nth-filled, nth-unfilled, length-front}
 
@@ -27,24 +28,18 @@ entryAt P x k = C P (k / x) (k % x)
 
 module _ {P : Problem} (h : WellFormed P) where
   -- ---- sizes
-  pub s-few : s P ≤ 8
-  s-few = omega (arith, s-le-m P (h .moduli), h .m-high)
-
-  pub columns-few : N P ≤ 24
-  columns-few = omega (arith, s-few, h .n-high)
-
   pub columns-some : 0 < N P
   columns-some = omega (arith, h .n-low)
 
   pub area : P .m * N P ≤ 192
-  area = mul-le-mul (h .m-high) columns-few
+  area = mul-le-mul (h .m-high) (N-le-24 P h)
 
   pub square : N P * N P ≤ 576
-  square = mul-le-mul columns-few columns-few
+  square = mul-le-mul (N-le-24 P h) (N-le-24 P h)
 
   -- ---- the entries
   modulus-small : (i : ℕ) → natAbs (negℤ (modulus P i)) ≤ 1000
-  modulus-small i = rw (abs-neg (modulus P i)) (h .high i)
+  modulus-small i = rw (abs-neg (modulus P i)) (h .moduli-high i)
 
   module _ {i c : ℕ} (l : InC P i c) where
     pub C-modulus : c < s P → modulusRow P c ≡ i → keep (negℤ (modulus P i)) ≡ C P i c

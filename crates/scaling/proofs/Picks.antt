@@ -1,30 +1,27 @@
 -- The lines of a flat list before and after a loop, as lists; and the flag of an addition.
 use mathlib.Core.Path.{_≡_, refl, ap, ap₂, sym, _∙_}
 use mathlib.Core.Logic.{_≢_}
-use mathlib.Core.Bool.{Bool, true, false, _||_, or-assoc, false≢true}
-use mathlib.Core.List.{List, [], _∷_, _++_, map}
+use mathlib.Core.Bool.{Bool, true, false, _||_}
+use mathlib.Core.List.{List, [], _∷_, map}
 use Prim.Native.Nat.{ℕ, zero, suc, _+_, _*_, _%_, _<_, _≤_}
 use native.Mathlib.Nat.{suc-mul}
 use native.Mathlib.Omega.{arith}
 use lib.ListN.{length}
 use lib.IntN.{ℤ, pos, negℤ, _+ℤ_, _*ℤ_}
 use Rattle.whole.specs.Lists.{nth, tab}
-use Rattle.whole.proofs.Lists.{nth-tab}
+use Rattle.whole.proofs.Lists.{tab-cong, nth-tab}
 use Rattle.whole.proofs.Order.{abs-neg}
 use Rattle.whole.proofs.Exchange.{tr, Which, first, second, neither, which?, tr-first, tr-second, tr-neither}
 use Rattle.rules.specs.Limits.{beyond}
 use Rattle.rules.specs.Steps.{plus, anyBeyond}
+use Rattle.theory.proofs.Range.{beyond-none}
 use Rattle.scaling.specs.Flat.{Within, keep, sumAt, addF, addO, swapF, negF, turnF}
 use Rattle.scaling.specs.Join.{Small, pick}
-use Rattle.scaling.proofs.Values.{within, not-beyond, kept}
+use Rattle.scaling.proofs.Values.{not-beyond, kept}
 use Rattle.scaling.proofs.Places.{Layout, cell, turn-column, turn-row}
 use Rattle.scaling.proofs.Turns.{addF-kept, addF-reads, addF-made, negF-kept, negF-made, swapF-kept, swapF-first, swapF-second, turnF-made}
 
 -- ---- lists made from a function of the index
-tab-cong : {A : Type 0} (k : ℕ) (f g : ℕ → A) → ((i : ℕ) → i < k → f i ≡ g i) → tab k f ≡ tab k g
-tab-cong zero f g h = refl
-tab-cong (suc k) f g h = ap₂ _∷_ (h 0 (omega arith)) (tab-cong k (λ i. f (suc i)) (λ i. g (suc i)) (λ i l. h (suc i) (omega arith)))
-
 map-tab : (h : ℤ → ℤ) (k : ℕ) (f : ℕ → ℤ) → map h (tab k f) ≡ tab k (λ i. h (f i))
 map-tab h zero f = refl
 map-tab h (suc k) f = ap (_∷_ (h (f 0))) (map-tab h k (λ i. f (suc i)))
@@ -34,10 +31,6 @@ plus-tab q zero f g = refl
 plus-tab q (suc k) f g = ap (_∷_ (f 0 +ℤ q *ℤ g 0)) (plus-tab q k (λ i. f (suc i)) (λ i. g (suc i)))
 
 -- ---- whether a value is beyond M
-pub anyBeyond-append : (xs ys : List ℤ) → anyBeyond (xs ++ ys) ≡ anyBeyond xs || anyBeyond ys
-anyBeyond-append [] ys = refl
-anyBeyond-append (x ∷ xs) ys = ap (λ (b : Bool). beyond x || b) (anyBeyond-append xs ys) ∙ sym (or-assoc (beyond x) (anyBeyond xs) (anyBeyond ys))
-
 -- with one value more, at the end
 anyBeyond-last : (k : ℕ) (f : ℕ → ℤ) → anyBeyond (tab (suc k) f) ≡ beyond (f k) || anyBeyond (tab k f)
 anyBeyond-last zero f = refl
@@ -48,19 +41,6 @@ anyBeyond-last (suc k) f = ap (λ (b : Bool). beyond (f 0) || b) (anyBeyond-last
     swapped true true c = refl
     swapped true false c = refl
     swapped false b c = refl
-
-pub or-false-left : (a b : Bool) → a || b ≡ false → a ≡ false
-or-false-left true b e = absurd (false≢true (sym e))
-or-false-left false b e = refl
-
-pub or-false-right : (a b : Bool) → a || b ≡ false → b ≡ false
-or-false-right true b e = absurd (false≢true (sym e))
-or-false-right false b e = e
-
-none-beyond : (k : ℕ) (f : ℕ → ℤ) → anyBeyond (tab k f) ≡ false → (i : ℕ) → i < k → beyond (f i) ≡ false
-none-beyond zero f e i h = absurd (omega arith)
-none-beyond (suc k) f e zero h = or-false-left (beyond (f 0)) (anyBeyond (tab k (λ i. f (suc i)))) e
-none-beyond (suc k) f e (suc i) h = none-beyond k (λ i. f (suc i)) (or-false-right (beyond (f 0)) (anyBeyond (tab k (λ i. f (suc i)))) e) i (omega arith)
 
 -- ---- lines
 pick-tab : (xs : List ℤ) (at stride k : ℕ) → pick xs at stride k ≡ tab k (λ i. nth xs (at + i * stride))
@@ -147,7 +127,7 @@ module _ {n : ℕ} {at : ℕ → ℕ} {stride count : ℕ} (lay : Layout n at st
     add-lines w e = record {
       here = pick-tab ys (at j) stride count ∙ tab-cong count (λ k. nth ys (at j + k * stride)) sum (λ k l.
           addF-made xs (at j) (at i) stride q count (lay .step hi) (lay .apart hj hi d) k l w
-          ∙ kept (sum k) (within (sum k) (none-beyond count sum (sym (flag-upto count (omega arith)) ∙ e) k l))) ∙ sym sums;
+          ∙ kept (sum k) (rw (nth-tab count sum k (pos 0) l) at (beyond-none (tab count sum) (sym (flag-upto count (omega arith)) ∙ e) k))) ∙ sym sums;
       off = λ c h x. pick-same ys xs (at c) (at c) stride count
           (λ k l. addF-kept xs (at j) (at i) stride q (at c + k * stride) count (λ o b. lay .apart h hj x .each k o l b));
     }

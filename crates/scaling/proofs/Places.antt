@@ -3,14 +3,15 @@ use mathlib.Core.Path.{_≡_, ap, sym, _∙_}
 use mathlib.Core.Logic.{_≢_}
 use mathlib.Core.Bool.{Bool}
 use Prim.Native.Nat.{ℕ, zero, suc, _+_, _*_, _/_, _%_, _<_, _≤_}
-use native.Mathlib.Nat.{mul-le-mul, mul-lt-mul-of-pos-right, le-refl, suc-mul, mod-lt, mod-eq-of-lt, div-eq-of-lt, div-add-mod', div-lt-iff-lt-mul}
+use native.Mathlib.Nat.{mul-lt-mul-of-pos-right, le-refl, suc-mul, mod-lt, mod-eq-of-lt, div-eq-of-lt, div-add-mod', div-lt-iff-lt-mul}
 use native.Mathlib.Nat.{add-mul-mod-self-right, add-mul-div-right}
 use native.Mathlib.Omega.{arith}
 use Rattle.whole.proofs.Tests.{Test, pass, fail, lt?}
+use Rattle.whole.proofs.Order.{row-within}
 use Rattle.scaling.specs.Flat.{turnFrom}
 
 pub cell : {j n k m : ℕ} → j < n → k < m → j + k * n < m * n
-cell {j} {n} {k} {m} hj hk = omega (arith, mul-le-mul {n₁ = suc k} {m₁ = n} hk (le-refl n), suc-mul k n)
+cell {j} {n} {k} {m} hj hk = omega (arith, row-within k n m n hk (le-refl n))
 
 -- a table with an entry has a row
 pub some-row : (rows width k : ℕ) → k < rows * width → width ≤ rows * width

@@ -9,7 +9,7 @@ use lib.IntN.{ℤ, pos, negℤ, natAbs}
 use lib.Signed.{ltZ}
 use Rattle.whole.specs.Division.{floorZ}
 use Rattle.whole.specs.Lists.{nth}
-use Rattle.whole.proofs.Tests.{eqb-true, eqb-false}
+use borrow.Author.Tests.{eq-eqb, ne-eqb}
 use Rattle.whole.proofs.Order.{abs-neg}
 use Rattle.whole.proofs.Division.{floor-le}
 use Rattle.rules.specs.Limits.{isZero}
@@ -33,11 +33,11 @@ pub record Reduced (stage2 : Bool) (m n row b c : ℕ) (s r : Work) : Type 0 whe
 -- ---- the pivot's column to its place
 pub bring-not : (b : ℕ) (u : State) → bring b b u ≡ u
 unfolding bring
-bring-not b u = ap (λ (x : Bool). elim x [ true ↦ u | false ↦ swapStep b b u ]) (eqb-true b)
+bring-not b u = ap (λ (x : Bool). elim x [ true ↦ u | false ↦ swapStep b b u ]) (eq-eqb b b refl)
 
 pub bring-swaps : (p b : ℕ) (u : State) → p ≢ b → bring p b u ≡ swapStep p b u
 unfolding bring
-bring-swaps p b u d = ap (λ (x : Bool). elim x [ true ↦ u | false ↦ swapStep p b u ]) (eqb-false p b d)
+bring-swaps p b u d = ap (λ (x : Bool). elim x [ true ↦ u | false ↦ swapStep p b u ]) (ne-eqb p b d)
 
 pub bring-same : {m n : ℕ} {s : Work} → Fine m n s → (p b : ℕ) → p ≡ b → Same m n s (bring p b (stateOf m n s))
 bring-same {m} {n} {s} f p b e = record { fine = f; same = rw e (sym (bring-not b (stateOf m n s))) }

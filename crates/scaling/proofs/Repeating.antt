@@ -14,7 +14,7 @@ use Rattle.rules.specs.Limits.{isZero}
 use Rattle.rules.specs.Search.{found, smallest, total}
 use Rattle.rules.specs.Steps.{State, addStep}
 use Rattle.rules.specs.Stages.{size, done, adds, next, eliminate}
-use Rattle.theory.proofs.ExtraTests.{true-not-false, or-false-left, or-false-right}
+use Rattle.whole.proofs.Tests.{true-not-false, or-neither}
 use Rattle.theory.proofs.Eliminate.{Adds, total-falls, eliminate-done, eliminate-adds}
 use Rattle.theory.proofs.Repetition.{adds-is, quotient-small, pivot-after}
 use Rattle.theory.proofs.Flag.{eliminate-over}
@@ -99,8 +99,8 @@ module _ {stage2 : Bool} {m n row lo a p j : ℕ} {q : ℤ} {s : Work} (f : Fine
       -- it goes on
       pub goes-on : w .over || eqb k a ≡ false → GoesOn stage2 m n row lo a s w xs x k
       goes-on e =
-          let clear : w .over ≡ false = or-false-left (w .over) (eqb k a) e in
-          let some : k ≢ a = eqb-false k a (or-false-right (w .over) (eqb k a) e) in
+          let clear : w .over ≡ false = or-neither (w .over) (eqb k a) e .0 in
+          let some : k ≢ a = eqb-false k a (or-neither (w .over) (eqb k a) e .1) in
           record {
             fine = tr .fine clear;
             divides = can-divide r ko (rd .a-in) (next-p clear) some;

@@ -13,15 +13,14 @@ use Rattle.rules.specs.Limits.{M}
 use Rattle.rules.specs.Search.{total}
 use Rattle.rules.specs.Steps.{State}
 use Rattle.rules.specs.Stages.{size, isOther, eliminate, settle, row, Progress}
-use Rattle.theory.proofs.ExtraTests.{true-not-false, passed, failed}
-use Rattle.theory.proofs.Search.{In, is-other, Smallest}
+use Rattle.whole.proofs.Tests.{true-not-false, passed, failed}
+use Rattle.theory.proofs.Search.{In, is-other, Smallest, first-there, first-nowhere, smallest-there}
 use Rattle.theory.proofs.Loops.{Worked, row-works}
 use Rattle.theory.proofs.Flag.{settle-over}
 use Rattle.scaling.specs.declared.work.Work.{Work}
 use Rattle.scaling.specs.Join.{stateOf, Fine, tableFor}
 use Rattle.scaling.specs.Scan.{sizes, Other}
 use Rattle.scaling.specs.Rows.{sizesIn, left, progress, Eliminated, Pivot, RowBegun, RowDone}
-use Rattle.scaling.proofs.Hits.{first-there, first-nowhere, smallest-there}
 use Rattle.scaling.proofs.TableRow.{RowIn, size-in, size-small}
 use Rattle.scaling.proofs.Tracking.{over-tracks}
 use Rattle.scaling.proofs.Repeating.{Begun}

@@ -10,13 +10,12 @@ use lib.Signed.{quotZ}
 use Rattle.whole.specs.Lists.{nth}
 use Rattle.rules.specs.Search.{found, first, smallest}
 use Rattle.rules.specs.Stages.{isOther, otherColumn, done, adds, next}
-use Rattle.theory.proofs.Search.{In, Smallest, first-cong}
+use Rattle.theory.proofs.Search.{In, Smallest, first-cong, first-there, smallest-there}
 use Rattle.theory.proofs.Repetition.{next-adds, next-done}
 use Rattle.scaling.specs.declared.work.Work.{Work}
 use Rattle.scaling.specs.Join.{stateOf, tableFor}
 use Rattle.scaling.specs.Scan.{sizes, Other, Divisible}
 use Rattle.scaling.specs.Rows.{sizesIn}
-use Rattle.scaling.proofs.Hits.{first-there, smallest-there}
 use Rattle.scaling.proofs.TableRow.{RowIn, size-in}
 
 -- the test reads only the columns there are

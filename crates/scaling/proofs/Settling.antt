@@ -14,7 +14,7 @@ use Rattle.whole.proofs.Exchange.{tr-second}
 use Rattle.rules.specs.Search.{each}
 use Rattle.rules.specs.Steps.{State, Table, get, swapStep, negateStep, step}
 use Rattle.rules.specs.Stages.{size, bring, makePositive, reduce, settle}
-use Rattle.theory.proofs.ExtraTests.{true-not-false}
+use Rattle.whole.proofs.Tests.{true-not-false}
 use Rattle.theory.proofs.Loops.{each-start, each-step}
 use Rattle.theory.proofs.StepLines.{count}
 use Rattle.theory.proofs.Entries.{swap-get, negate-at}

@@ -14,14 +14,15 @@ use Rattle.whole.specs.Matrix.{δ}
 use Rattle.whole.proofs.Tests.{Test, pass, fail, lt?}
 use Rattle.whole.proofs.Sum.{δ-same, δ-diff, δ-sym}
 use Rattle.rules.specs.Limits.{M}
-use Rattle.rules.specs.Problem.{Problem, N, C, columns}
+use Rattle.rules.specs.Problem.{Problem, N, C, columns, WellFormed}
 use Rattle.rules.specs.Steps.{line, unit, start}
 use Rattle.theory.proofs.Start.{start-count, start-line, nth-unit, length-unit}
 use Rattle.theory.proofs.Shape.{length-columns, column-length}
+use Rattle.theory.proofs.Sizes.{N-le-24}
 use Rattle.scaling.specs.declared.work.Work.{Work}
 use Rattle.scaling.specs.Join.{pick, lineOf, Small, Same}
-use Rattle.scaling.specs.Problem.{WellFormed, HoldsC, HoldsIdentity}
-use Rattle.scaling.proofs.MatrixC.{columns-few, columns-some, C-small, place-in}
+use Rattle.scaling.specs.Problem.{HoldsC, HoldsIdentity}
+use Rattle.scaling.proofs.MatrixC.{columns-some, C-small, place-in}
 use Rattle.scaling.proofs.State.{state-is}
 
 -- all of its entries are 0
@@ -107,7 +108,7 @@ module _ {P : Problem} {t t₀ : List ℤ} (g : WellFormed P) (h : HoldsC P t t�
     start-same = record {
       fine = record {
         rows = g .m-high;
-        cols = columns-few g;
+        cols = N-le-24 P g;
         clear = refl;
         t = C-holds-small;
         v = identity-small identity y (columns-some g);

@@ -3,7 +3,7 @@ use mathlib.Core.Path.{_≡_, refl, ap, sym, _∙_}
 use mathlib.Core.Bool.{Bool, true, false, _||_}
 use mathlib.Core.List.{List, _++_}
 use Prim.Native.Nat.{ℕ, zero, suc, _+_, _*_, _<_, _≤_}
-use native.Mathlib.Nat.{mul-le-mul, le-refl, suc-mul, add-zero}
+use native.Mathlib.Nat.{mul-le-mul, add-zero}
 use native.Mathlib.Omega.{arith}
 use lib.ListN.{length, getD}
 use lib.Seq.{ext-getD}
@@ -11,12 +11,13 @@ use lib.IntN.{ℤ, natAbs}
 use Rattle.whole.specs.Lists.{nth}
 use Rattle.rules.specs.Steps.{Line, State, blank, line, get, getW, values, anyBeyond}
 use Rattle.rules.specs.Stages.{size}
+use Rattle.theory.proofs.Flag.{anyBeyond-append}
 use Rattle.scaling.specs.declared.work.Work.{Work}
 use Rattle.scaling.specs.Flat.{Within}
 use Rattle.scaling.specs.Join.{lineOf, linesFrom, stateOf, Fine, tableFor, entriesFor, heightFor}
 use Rattle.scaling.specs.Scan.{sizes}
 use Rattle.scaling.proofs.Places.{cell}
-use Rattle.scaling.proofs.Picks.{pick-nth, pick-small, anyBeyond-append}
+use Rattle.scaling.proofs.Picks.{pick-nth, pick-small}
 
 -- ---- lines
 lines-count : (m n : ℕ) (t v w : List ℤ) (i k : ℕ) → length (linesFrom m n t v w i k) ≡ k
@@ -121,11 +122,3 @@ module _ {m n : ℕ} {s : Work} (f : Fine m n s) (long : Long s) where
 
   pub w-in : (c : ℕ) → c < n → Within (s .w) (c * n) 1 n
   w-in c h = record { each = λ k l. omega (arith, w-room, cell {j = k} {n = n} {k = c} {m = n} l h) }
-
-  -- a row of the table that a stage looks at
-  pub row-in : (stage2 : Bool) (r : ℕ) → r < heightFor stage2 m n → n + r * n ≤ length (entriesFor stage2 (s .t) (s .v))
-  row-in true r h = omega (arith, v-room, suc-mul r n, mul-le-mul {n₁ = suc r} {m₁ = n} h (le-refl n))
-  row-in false r h = omega (arith, t-room, suc-mul r n, mul-le-mul {n₁ = suc r} {m₁ = n} h (le-refl n))
-
-  pub place-in : (stage2 : Bool) (r c : ℕ) → r < heightFor stage2 m n → c < n → c + r * n < length (entriesFor stage2 (s .t) (s .v))
-  place-in stage2 r c h l = omega (arith, row-in stage2 r h)

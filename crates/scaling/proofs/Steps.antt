@@ -10,15 +10,16 @@ use native.Mathlib.Omega.{arith}
 use lib.ListN.{length, getD, set, take, drop, length-set, length-append, length-take, length-drop, List·getD-append}
 use lib.Seq.{getD-set-same, getD-set-other, getD-append-add, getD-drop, getD-take}
 use lib.IntN.{ℤ, negℤ}
-use Rattle.whole.proofs.Tests.{Test, pass, fail, lt?}
+use Rattle.whole.proofs.Tests.{Test, pass, fail, lt?, or-neither}
 use Rattle.whole.proofs.Exchange.{tr, tr-first, tr-second, tr-neither}
 use Rattle.rules.specs.Steps.{Line, State, blank, anyBeyond, values, step, plus, swapStep, negated, negateStep, source, target, addStep, reorder}
+use Rattle.theory.proofs.Flag.{anyBeyond-append}
 use Rattle.scaling.specs.declared.work.Work.{Work}
 use Rattle.scaling.specs.Flat.{addF, addO, swapF, negF, turnF}
 use Rattle.scaling.specs.Join.{pick, lineOf, stateOf, Small, Fine, Tracks, Same}
 use Rattle.scaling.proofs.Places.{columns, rows}
 use Rattle.scaling.proofs.Turns.{addF-small, negF-small, swapF-small, turnF-small}
-use Rattle.scaling.proofs.Picks.{Written, anyBeyond-append, or-false-left, or-false-right, swap-lines, negate-lines, add-flag, add-lines, turn-columns, turn-rows}
+use Rattle.scaling.proofs.Picks.{Written, swap-lines, negate-lines, add-flag, add-lines, turn-columns, turn-rows}
 use Rattle.scaling.proofs.State.{Long, lineIn, state-count, state-steps, state-over, state-line, state-is, line-near, t-room, v-room, w-room, t-in, v-in, w-in}
 
 -- r is made of these arrays, this count and this flag
@@ -159,20 +160,20 @@ module _ {m n : ℕ} {s : Work} (r : Work) (f : Fine m n s) (long : Long s) wher
 
     module _ (o : r .over ≡ false) where
       rest-clear : addO (s .v) j i n q n || addO (s .w) (i * n) (j * n) 1 (negℤ q) n ≡ false
-      rest-clear = or-false-right (addO (s .t) j i n q m) (addO (s .v) j i n q n || addO (s .w) (i * n) (j * n) 1 (negℤ q) n) (sym (g .over) ∙ o)
+      rest-clear = or-neither (addO (s .t) j i n q m) (addO (s .v) j i n q n || addO (s .w) (i * n) (j * n) 1 (negℤ q) n) (sym (g .over) ∙ o) .1
 
       in-t : Written n j (plus q (pick (s .t) j n m) (pick (s .t) i n m)) (λ c. pick (s .t) c n m) (λ c. pick (addF (s .t) j i n q m) c n m)
       in-t = add-lines (columns m n) (s .t) i j q hi hj apart (t-in f long j hj)
-          (or-false-left (addO (s .t) j i n q m) (addO (s .v) j i n q n || addO (s .w) (i * n) (j * n) 1 (negℤ q) n) (sym (g .over) ∙ o))
+          (or-neither (addO (s .t) j i n q m) (addO (s .v) j i n q n || addO (s .w) (i * n) (j * n) 1 (negℤ q) n) (sym (g .over) ∙ o) .0)
 
       in-v : Written n j (plus q (pick (s .v) j n n) (pick (s .v) i n n)) (λ c. pick (s .v) c n n) (λ c. pick (addF (s .v) j i n q n) c n n)
       in-v = add-lines (columns n n) (s .v) i j q hi hj apart (v-in f long j hj)
-          (or-false-left (addO (s .v) j i n q n) (addO (s .w) (i * n) (j * n) 1 (negℤ q) n) rest-clear)
+          (or-neither (addO (s .v) j i n q n) (addO (s .w) (i * n) (j * n) 1 (negℤ q) n) rest-clear .0)
 
       in-w : Written n i (plus (negℤ q) (pick (s .w) (i * n) 1 n) (pick (s .w) (j * n) 1 n)) (λ c. pick (s .w) (c * n) 1 n)
           (λ c. pick (addF (s .w) (i * n) (j * n) 1 (negℤ q) n) (c * n) 1 n)
       in-w = add-lines (rows n) (s .w) j i (negℤ q) hj hi d (w-in f long i hi)
-          (or-false-right (addO (s .v) j i n q n) (addO (s .w) (i * n) (j * n) 1 (negℤ q) n) rest-clear)
+          (or-neither (addO (s .v) j i n q n) (addO (s .w) (i * n) (j * n) 1 (negℤ q) n) rest-clear .1)
 
       at-source : lineIn m n r i ≡ x
       unfolding lineOf

@@ -12,8 +12,8 @@ use mir.Facts.{toZ-ofZ}
 use Rattle.whole.specs.Lists.{nth}
 use Rattle.whole.specs.Sum.{sum}
 use Rattle.whole.proofs.Order as order
+use Rattle.whole.proofs.Sum.{products-size}
 use Rattle.rules.specs.Limits.{M}
-use Rattle.theory.proofs.MoreNumbers.{products-size}
 use Rattle.scaling.specs.declared.formulas.Exponents.{Exponents}
 use Rattle.scaling.specs.Terms.{Products, RowIn}
 use Rattle.scaling.proofs.Values.{abs32, fits32, widened, quot-fits, bits-pos}

@@ -3,12 +3,12 @@
 use mathlib.Core.Path.{_≡_, sym, _∙_, ap}
 use mathlib.Core.Bool.{Bool, true, false}
 use mathlib.Core.List.{List}
-use Prim.Native.Nat.{ℕ, suc, _+_, _*_, _<_, _≤_}
-use native.Mathlib.Nat.{mul-le-mul, suc-mul}
+use Prim.Native.Nat.{ℕ, _+_, _*_, _<_, _≤_}
 use native.Mathlib.Omega.{arith}
 use lib.ListN.{length}
 use lib.IntN.{ℤ, natAbs}
 use Rattle.whole.specs.Lists.{nth}
+use Rattle.whole.proofs.Order.{row-within}
 use Rattle.rules.specs.Limits.{M}
 use Rattle.rules.specs.Steps.{get}
 use Rattle.rules.specs.Stages.{size}
@@ -23,13 +23,10 @@ pub record RowIn (stage2 : Bool) (m n row : ℕ) (s : Work) (xs : List ℤ) : Ty
   pub entry : (c : ℕ) → c < n → get (tableFor stage2) (stateOf m n s) row c ≡ nth xs (c + row * n)
   pub whole : n + row * n ≤ length xs
 
-rows-fit : (n row h : ℕ) → n ≤ 24 → row < h → n + row * n ≤ h * 24
-rows-fit n row h hn hr = omega (arith, suc-mul row n, mul-le-mul {n₁ = suc row} {m₁ = n} hr hn)
-
 -- a row's numbers are small
 pub row-short : (stage2 : Bool) {m n row : ℕ} {s : Work} → Fine m n s → row < heightFor stage2 m n → n + row * n ≤ 576
-row-short true {m} {n} {row} f h = omega (arith, rows-fit n row n (f .cols) h, f .cols)
-row-short false {m} {n} {row} f h = omega (arith, rows-fit n row m (f .cols) h, f .rows)
+row-short true {m} {n} {row} f h = omega (arith, row-within row n n 24 h (f .cols), f .cols)
+row-short false {m} {n} {row} f h = omega (arith, row-within row n m 24 h (f .cols), f .rows)
 
 module _ (stage2 : Bool) {m n row : ℕ} {s : Work} (f : Fine m n s) (h : row < heightFor stage2 m n) where
   -- of any state of the same sizes
@@ -40,8 +37,8 @@ module _ (stage2 : Bool) {m n row : ℕ} {s : Work} (f : Fine m n s) (h : row < 
   }
     where
       whole : (b : Bool) → row < heightFor b m n → {xs : List ℤ} → xs ≡ entriesFor b (w .t) (w .v) → n + row * n ≤ length xs
-      whole true g d = omega (arith, rows-fit n row n (f .cols) g, f .cols, l .v, ap length d)
-      whole false g d = omega (arith, rows-fit n row m (f .cols) g, f .rows, l .t, ap length d)
+      whole true g d = omega (arith, row-within row n n 24 g (f .cols), f .cols, l .v, ap length d)
+      whole false g d = omega (arith, row-within row n m 24 g (f .cols), f .rows, l .t, ap length d)
 
   entries-small : (b : Bool) → Small (entriesFor b (s .t) (s .v))
   entries-small true = f .v
@@ -55,7 +52,7 @@ module _ (stage2 : Bool) {m n row : ℕ} {s : Work} (f : Fine m n s) (h : row < 
 pub row-of-v : {m n row : ℕ} {s : Work} → Fine m n s → row < n → length (s .v) ≡ 576 → RowIn true m n row s (s .v)
 row-of-v {m} {n} {row} {s} f h e = record {
   entry = λ c k. state-get m n s true row c h k;
-  whole = omega (arith, rows-fit n row n (f .cols) h, f .cols);
+  whole = omega (arith, row-short true f h);
 }
 
 pub size-in : {stage2 : Bool} {m n row : ℕ} {s : Work} {xs : List ℤ} → RowIn stage2 m n row s xs → (c : ℕ) → c < n

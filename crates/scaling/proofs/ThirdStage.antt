@@ -17,7 +17,7 @@ use Rattle.scaling.specs.declared.work.Work.{Work}
 use Rattle.scaling.specs.Join.{stateOf, Fine, Tracks}
 use Rattle.scaling.specs.Scan.{sizes, Lowest}
 use Rattle.scaling.specs.Rows.{sizesIn, Pivot, Apart, AllReduced, Stage3Begun}
-use Rattle.scaling.proofs.Hits.{last-there}
+use Rattle.theory.proofs.Search.{last-there}
 use Rattle.scaling.proofs.State.{state-size}
 use Rattle.scaling.proofs.Tracking.{over-tracks, same-tracks}
 

@@ -3,8 +3,8 @@ use mathlib.Core.Path.{_≡_, refl, sym, _∙_, ap}
 use mathlib.Core.Bool.{true}
 use Prim.Native.Nat.{ℕ, suc}
 use lib.IntN.{ℤ}
+use Rattle.whole.proofs.Tests.{true-not-false}
 use Rattle.rules.specs.Steps.{State, addStep, step}
-use Rattle.theory.proofs.ExtraTests.{true-not-false}
 use Rattle.scaling.specs.declared.work.Work.{Work}
 use Rattle.scaling.specs.Join.{stateOf, Fine, Tracks}
 use Rattle.scaling.proofs.State.{state-over}

@@ -1,36 +1,32 @@
 -- The call `translate`: a refusal as it stands, or the formula in the groups; from the answers of checks 7 to 9, and of 1 to 6 before them.
 use mathlib.Core.Path.{_≡_, refl, _∙_, ap}
 use mathlib.Core.Logic.{_≢_}
-use mathlib.Core.Bool.{Bool, true, false, _&&_}
+use mathlib.Core.Bool.{true, false, _&&_}
 use mathlib.Core.List.{List, [], _∷_}
 use Prim.Native.Nat.{ℕ, _*_, _≤_}
 use native.Mathlib.Nat.{mul-le-mul}
 use native.Mathlib.Omega.{arith}
 use lib.Dec.{leb, eqb}
 use lib.ListN.{length, take}
+use lib.Seq.{take-length}
 use lib.IntN.{ℤ}
-use borrow.Author.Tests.{leb-true, eqb-true}
+use borrow.Author.Tests.{leb-true}
+use Rattle.whole.proofs.Tests.{and-both}
 use Rattle.rules.specs.Limits.{mostTerms, roomCoefficients, roomExponents}
-use Rattle.rules.specs.Search.{Found, none, found, first}
-use Rattle.rules.specs.Problem.{Problem}
+use Rattle.rules.specs.Problem.{Problem, WellFormed}
 use Rattle.rules.specs.Stages.{run}
-use Rattle.rules.specs.Formulas.{Formula, terms, term, d}
-use Rattle.rules.specs.Calls.{Check, Verdict, taken, refused, verdict, exponentsCheck, rangeCheck, termRefused, termsFault, termsCheck}
+use Rattle.rules.specs.Formulas.{Formula, terms, d, WellFormedFormula}
+use Rattle.rules.specs.Calls.{Check, Verdict, taken, refused, verdict, exponentsCheck, rangeCheck, termsCheck}
 use Rattle.rules.specs.Calls.{filled, translatedExponents, translatedTo, translateOf, translateVerdict}
-use Rattle.theory.proofs.MoreSearch.{nowhere-found}
-use Rattle.theory.proofs.MoreTests.{and-true}
+use Rattle.theory.proofs.Accepted.{all-pass, formula-lengths, formula-accepted, terms-taken}
 use Rattle.scaling.specs.declared.TranslateAnswer.{TranslateAnswer}
 use Rattle.scaling.specs.declared.run.Outcome.{Outcome}
-use Rattle.scaling.specs.Problem.{problemOf, WellFormed, Ran}
+use Rattle.scaling.specs.Problem.{problemOf, Ran}
 use Rattle.scaling.specs.Checks.{Says, given}
-use Rattle.scaling.specs.Answers.{Translates, RoomToTranslate, GoodFormula, formulaOf, AllTaken}
-use Rattle.scaling.proofs.Verdicts.{goes-on, stays, says-taken, says-refused, exponents-passed}
+use Rattle.scaling.specs.Answers.{Translates, RoomToTranslate, formulaOf, AllTaken}
+use Rattle.scaling.proofs.Verdicts.{goes-on, stays, says-taken, says-refused}
 use Rattle.scaling.proofs.Verdicts.{Answered, six, refused-before, passed, refused-at-6, past-6}
 use Rattle.scaling.proofs.Building.{range-refused, range-taken}
-
-take-whole : (l : List ℤ) → take (length l) l ≡ l
-take-whole [] = refl
-take-whole (x ∷ xs) = ap (λ l. x ∷ l) (take-whole xs)
 
 -- ---- from a verdict
 module _ (P : Problem) (f : Formula) (ks ts : List ℤ) {x : Verdict} where
@@ -45,7 +41,7 @@ module _ (P : Problem) (f : Formula) (ks ts : List ℤ) {x : Verdict} where
     number = refl;
     place = refl;
     d = g;
-    kept = k ∙ ap (λ l. filled l ks) (take-whole (f .coefficients));
+    kept = k ∙ ap (λ l. filled l ks) (take-length (f .coefficients));
     translated = t;
   })
 
@@ -68,14 +64,7 @@ module _ {P : Problem} {r : Outcome} (F : WellFormed P) (R : Ran P r) (f : Formu
     past-9 e = past-7 ∙ says-taken s e
 
     pub all-taken : number ≡ 0 → AllTaken P f
-    all-taken e = record { each = nowhere-found bad (terms f) (go (first bad 0 (terms f)) (says-taken s e)) }
-      where
-        bad : ℕ → Bool
-        bad t = termRefused P (run P) (term P f t)
-
-        go : (x : Found) → verdict (termsFault P f x ∷ []) ≡ taken → x ≡ none
-        go none e = refl
-        go (found t) e = let z : _≡_ {A = ℕ} 0 1 = cc in absurd (omega arith)
+    all-taken e = record { each = terms-taken P (run P) f (all-pass (termsCheck P (run P) f ∷ []) (says-taken s e) .0) }
 
 -- ---- 1 to 6
 module _ {m n : ℕ} {matrix moduli es : List ℤ} {number place : ℕ} (cs ks ts : List ℤ)
@@ -100,24 +89,21 @@ module _ {m n : ℕ} {matrix moduli es : List ℤ} {number place : ℕ} (cs ks t
 
     pub room : RoomToTranslate ks ts
     room =
-        let b = and-true (leb roomCoefficients (length ks)) (leb roomExponents (length ts)) (passed a e .room) in
+        let b = and-both (leb roomCoefficients (length ks)) (leb roomExponents (length ts)) (passed a e .room) in
         record { kept = leb-true roomCoefficients (length ks) (b .0); translated = leb-true roomExponents (length ts) (b .1) }
 
-    lengths : (length es ≡ length cs * n) × (length cs ≤ mostTerms)
-    lengths =
-        let b = and-true (eqb (length es) (length cs * n)) (leb (length cs) mostTerms) (passed a e .also) in
-        (eqb-true (length es) (length cs * n) (b .0), leb-true (length cs) mostTerms (b .1))
-
     pub few-exponents : length es ≤ 1024
-    few-exponents = omega (arith, lengths .0, mul-le-mul (lengths .1) (well-formed .n-high))
+    few-exponents =
+        let l = formula-lengths (problemOf n matrix moduli) f (passed a e .also) in
+        omega (arith, l .0, mul-le-mul (l .1) (well-formed .n-high))
 
     module _ {bad at : ℕ} (x : Says bad at (verdict (exponentsCheck es ∷ []))) where
       pub translate-refused-at-6 : bad ≢ 0 → Translates (translateOf P f ks ts) (record { number = bad; place = at; d = 0 }) ks ts
       translate-refused-at-6 h = rw (translate-is refl) (refuses P f ks ts (refused-at-6 a e x (last3 P f) h))
 
       module _ (z : bad ≡ 0) where
-        pub good-formula : GoodFormula (problemOf n matrix moduli) f
-        good-formula = record { few = lengths .1; fits = lengths .0; small = exponents-passed es (says-taken x z) }
+        pub good-formula : WellFormedFormula (problemOf n matrix moduli) f
+        good-formula = formula-accepted (problemOf n matrix moduli) f (passed a e .also) (all-pass (exponentsCheck es ∷ []) (says-taken x z) .0)
 
         pub translate-passed : {r : TranslateAnswer} {ks₁ ts₁ : List ℤ}
             → Translates (translatedTo (problemOf n matrix moduli) f ks ts (verdict (last3 (problemOf n matrix moduli) f))) r ks₁ ts₁

@@ -12,17 +12,17 @@ use Rattle.whole.specs.Lists.{nth}
 use Rattle.whole.proofs.Sum.{sum-cong}
 use Rattle.rules.specs.Limits.{beyond}
 use Rattle.rules.specs.Search.{first}
-use Rattle.rules.specs.Problem.{Problem, N}
+use Rattle.rules.specs.Problem.{Problem, N, WellFormed}
 use Rattle.rules.specs.Stages.{run, W}
-use Rattle.rules.specs.Formulas.{isNone, isFree, kAnd, d, translated, passes}
+use Rattle.rules.specs.Formulas.{isNone, isFree, kAnd, d, translated, passes, WellFormedFormula}
 use Rattle.rules.specs.Calls.{termRefused, termNumber}
 use Rattle.theory.proofs.Search.{first-cong}
 use Rattle.theory.proofs.Accepted.{term-accepted}
 use Rattle.scaling.specs.declared.formulas.Exponents.{Exponents}
 use Rattle.scaling.specs.declared.run.ModulusRows.{ModulusRows}
-use Rattle.scaling.specs.Problem.{problemOf, WellFormed, Lists}
+use Rattle.scaling.specs.Problem.{problemOf, Lists}
 use Rattle.scaling.specs.Terms.{Monomial, KAnd, rowOfW, RowsIn}
-use Rattle.scaling.specs.Answers.{GoodFormula, formulaOf, Solved, judged, Passing}
+use Rattle.scaling.specs.Answers.{formulaOf, Solved, judged, Passing}
 use Rattle.scaling.proofs.Values.{not-beyond}
 
 -- ---- the exponents in the groups; the code's number of columns is n + s
@@ -83,7 +83,7 @@ module _ {n : ℕ} {matrix moduli : List ℤ} {q : ModulusRows} {w : List ℤ} {
 
 -- ---- where a term's exponents stand
 module _ {n : ℕ} {matrix moduli cs es : List ℤ} (F : WellFormed (problemOf n matrix moduli))
-    (G : GoodFormula (problemOf n matrix moduli) (formulaOf cs es)) (t : ℕ) (h : t < length cs) where
+    (G : WellFormedFormula (problemOf n matrix moduli) (formulaOf cs es)) (t : ℕ) (h : t < length cs) where
   pub term-place : t * n ≤ 1024
   term-place =
       let few : t ≤ 64 = omega (arith, G .few) in

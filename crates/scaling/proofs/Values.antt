@@ -3,7 +3,7 @@
 use mathlib.Core.Path.{_≡_, refl, ap, sym, _∙_}
 use mathlib.Core.Bool.{Bool, true, false, cond, false≢true}
 use Prim.Native.Nat.{ℕ, zero, suc, _/_, _^_, _<_, _≤_}
-use native.Mathlib.Nat.{mul-le-mul, zero-div}
+use native.Mathlib.Nat.{zero-div}
 use native.Mathlib.Omega.{arith}
 use lib.Dec.{T, eqb}
 use lib.IntN.{ℤ, pos, negsuc, natAbs, negℤ, _+ℤ_, _-ℤ_, _*ℤ_}
@@ -11,12 +11,13 @@ use lib.Signed.{_≤ℤ_, _<ℤ_, mag, ltZ, ltZ-yes, ltZ-no, quotZ, nonNeg}
 use mir.Syntax.{Width, w32, w64}
 use mir.Val.{SFits, toZ, ofZ, hbits}
 use mir.Facts.{toZ-ofZ}
-use borrow.Author.Tests.{ltb-true, ltb-false, lt-ltb, le-ltb}
+use borrow.Author.Tests.{ltb-true, ltb-false, lt-ltb, le-ltb, ne-eqb}
 use Rattle.whole.specs.Division.{floorZ}
-use Rattle.whole.proofs.Tests.{eqb-false}
-use Rattle.whole.proofs.Order.{zarith, -is, fits, fits-abs, abs-neg, abs-add, abs-sub, abs-mul}
+use Rattle.whole.proofs.Order.{zarith, -is, fits, fits-abs, abs-neg, abs-sub, product-size}
+use Rattle.whole.proofs.Signs.{less-pos, less-neg}
 use Rattle.whole.proofs.Division.{quot-le}
 use Rattle.rules.specs.Limits.{M, isZero, beyond}
+use Rattle.theory.proofs.Sizes.{add-size}
 use Rattle.scaling.specs.Flat.{keep}
 
 -- ---- what fits
@@ -44,14 +45,11 @@ pub widened : (z : ℤ) → SFits w32 z → toZ w64 (ofZ w64 (toZ w32 (ofZ w32 z
 widened z f = rw (toZ-ofZ f) (toZ-ofZ (widens z f))
 
 module _ (a b : ℤ) (ha : natAbs a ≤ 2147483648) (hb : natAbs b ≤ 2147483648) where
-  prod-abs : natAbs (a *ℤ b) ≤ 4611686018427387904
-  prod-abs = rw (abs-mul a b) (mul-le-mul ha hb)
-
   pub prod-fits : SFits w64 (a *ℤ b)
-  prod-fits = fits64 (a *ℤ b) (omega (arith, prod-abs))
+  prod-fits = fits64 (a *ℤ b) (omega (arith, product-size a b ha hb))
 
   pub mix-fits : (x : ℤ) → natAbs x ≤ 2147483648 → SFits w64 (x +ℤ a *ℤ b)
-  mix-fits x hx = fits64 (x +ℤ a *ℤ b) (omega (arith, prod-abs, abs-add x (a *ℤ b)))
+  mix-fits x hx = fits w64 (x +ℤ a *ℤ b) (add-size x a b hx ha hb)
 
 pub quot-fits : (a b : ℤ) → natAbs a < 9223372036854775808 → SFits w64 (quotZ a b)
 quot-fits a b h = fits64 (quotZ a b) (omega (arith, quot-le a b))
@@ -101,7 +99,7 @@ keep-small z = go (beyond z) refl
 -- ---- a test for 0
 pub zero-bits : (w : Width) → toZ w 0 ≡ pos 0 → (x : ℤ) → SFits w x → eqb (ofZ w x) 0 ≡ isZero x
 zero-bits w z (pos n) f = refl
-zero-bits w z (negsuc n) f = eqb-false (ofZ w (negsuc n)) 0 (λ e. omega (zarith, sym (toZ-ofZ f) ∙ ap (toZ w) e ∙ z)) ∙ sym (eqb-false (suc n) 0 (λ e. omega arith))
+zero-bits w z (negsuc n) f = ne-eqb (ofZ w (negsuc n)) 0 (λ e. omega (zarith, sym (toZ-ofZ f) ∙ ap (toZ w) e ∙ z)) ∙ sym (ne-eqb (suc n) 0 (λ e. omega arith))
 
 pub bits-pos : (y : ℤ) → natAbs y ≤ 2147483648 → 0 < natAbs y → 0 < ofZ w64 y
 bits-pos (pos b) h l = l
@@ -124,15 +122,9 @@ pos-nonneg (pos n) e = tt
 pos-nonneg (negsuc n) e = absurd (false≢true (sym e))
 
 -- ---- the floored quotient
-below : (k : ℕ) → negsuc 0 -ℤ pos k ≡ negsuc k
-below k = omega (zarith, -is (negsuc 0) (pos k))
-
-above : (k : ℕ) → negsuc 0 -ℤ negsuc k ≡ pos k
-above k = omega (zarith, -is (negsuc 0) (negsuc k))
-
 pub floor-neg-pos : (a b : ℤ) → pos 0 <ℤ b → a <ℤ pos 0 → negsuc 0 -ℤ quotZ (negsuc 0 -ℤ a) b ≡ floorZ a b
 floor-neg-pos (pos a) b h l = absurd (omega zarith)
-floor-neg-pos (negsuc a) (pos b) h l = rw (above a) (below (a / b))
+floor-neg-pos (negsuc a) (pos b) h l = rw (less-neg a) (less-pos (a / b))
 floor-neg-pos (negsuc a) (negsuc b) h l = absurd (omega zarith)
 
 pub floor-pos-pos : (a b : ℤ) → pos 0 <ℤ b → pos 0 ≤ℤ a → quotZ a b ≡ floorZ a b
@@ -145,7 +137,7 @@ floor-pos-neg a (pos b) h l = absurd (omega zarith)
 floor-pos-neg (pos zero) (negsuc b) h l = absurd (omega zarith)
 floor-pos-neg (pos (suc a)) (negsuc b) h l =
     let e : pos (suc a) -ℤ pos 1 ≡ pos a = omega (zarith, -is (pos (suc a)) (pos 1)) in
-    ap (λ (z : ℤ). negsuc 0 -ℤ quotZ z (pos (suc b))) e ∙ below (a / suc b)
+    ap (λ (z : ℤ). negsuc 0 -ℤ quotZ z (pos (suc b))) e ∙ less-pos (a / suc b)
 floor-pos-neg (negsuc a) (negsuc b) h l = absurd (omega zarith)
 
 pub floor-neg-neg : (a b : ℤ) → b <ℤ pos 0 → a ≤ℤ pos 0 → quotZ a b ≡ floorZ a b

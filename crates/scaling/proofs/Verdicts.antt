@@ -1,24 +1,19 @@
 -- The verdict of a list of checks in two parts, what an answer of the code says of a verdict, and what holds once checks 1 to 5, and 6, are passed.
-use mathlib.Core.Path.{_≡_, refl, sym, _∙_, ap}
+use mathlib.Core.Path.{_≡_, refl, sym, _∙_, ap, subst}
 use mathlib.Core.Logic.{_≢_}
 use mathlib.Core.Bool.{Bool, true, _&&_}
 use mathlib.Core.List.{List, [], _∷_, _++_}
-use Prim.Native.Nat.{ℕ, _*_, _≤_}
+use Prim.Native.Nat.{ℕ, _≤_}
 use native.Mathlib.Omega.{arith}
-use lib.Dec.{leb, eqb}
-use lib.ListN.{length}
-use lib.IntN.{ℤ, pos, natAbs}
-use lib.Signed.{_≤ℤ_}
-use borrow.Author.Tests.{leb-true, eqb-true}
+use lib.IntN.{ℤ, natAbs}
 use Rattle.whole.specs.Lists.{nth}
-use Rattle.whole.proofs.Order.{zarith, parts}
-use Rattle.rules.specs.Limits.{sizesInRange, modulusInRange, entryInRange}
+use Rattle.whole.proofs.Tests.{and-both}
+use Rattle.rules.specs.Limits.{sizesInRange}
 use Rattle.rules.specs.Search.{Found, none, found}
-use Rattle.rules.specs.Problem.{Problem}
+use Rattle.rules.specs.Problem.{Problem, WellFormed}
 use Rattle.rules.specs.Calls.{Check, Verdict, taken, refused, verdict, problemFits, exponentsCheck}
-use Rattle.theory.proofs.MoreTests.{and-true}
-use Rattle.theory.proofs.Accepted.{all-pass, unless-none, none-out, between, small, exponents-small}
-use Rattle.scaling.specs.Problem.{problemOf, WellFormed}
+use Rattle.theory.proofs.Accepted.{all-pass, unless-none, lengths-passed, problem-accepted, exponents-small}
+use Rattle.scaling.specs.Problem.{problemOf}
 use Rattle.scaling.specs.Checks.{Says, takes, refuses, given, problemChecks}
 
 -- ---- a list of checks in two parts
@@ -59,30 +54,6 @@ pub says-next : {number place : ℕ} (c : Check) (cs : List Check) → c .fault 
     → Says number place (verdict (c ∷ cs))
 says-next c cs e x = rw e x
 
--- ---- 1 and 2
-pub record Sizes (m n : ℕ) : Type 0 where
-  pub m-low : 1 ≤ m
-  pub m-high : m ≤ 8
-  pub n-low : 1 ≤ n
-  pub n-high : n ≤ 16
-
-pub sizes-passed : (m n : ℕ) → sizesInRange m n ≡ true → Sizes m n
-sizes-passed m n e =
-    let both = and-true (leb 1 m && leb m 8) (leb 1 n && leb n 16) e in
-    let rows = and-true (leb 1 m) (leb m 8) (both .0) in
-    let quantities = and-true (leb 1 n) (leb n 16) (both .1) in
-    record {
-      m-low = leb-true 1 m (rows .0);
-      m-high = leb-true m 8 (rows .1);
-      n-low = leb-true 1 n (quantities .0);
-      n-high = leb-true n 16 (quantities .1);
-    }
-
-pub lengths-passed : (P : Problem) → problemFits P ≡ true → (length (P .matrix) ≡ P .m * P .n) × (length (P .moduli) ≡ P .m)
-lengths-passed P e =
-    let both = and-true (eqb (length (P .matrix)) (P .m * P .n)) (eqb (length (P .moduli)) (P .m)) e in
-    (eqb-true (length (P .matrix)) (P .m * P .n) (both .0), eqb-true (length (P .moduli)) (P .m) (both .1))
-
 -- ---- 1 to 5, of a problem as it was given
 pub record Passed (m n : ℕ) (matrix moduli : List ℤ) (more outputs : Bool) : Type 0 where
   pub wellFormed : WellFormed (problemOf n matrix moduli)
@@ -97,24 +68,12 @@ module _ (m n : ℕ) (matrix moduli : List ℤ) (more outputs : Bool) where
   pub problem-passed : verdict (problemChecks P (problemFits P && more) outputs) ≡ taken → Passed m n matrix moduli more outputs
   problem-passed e =
       let a = all-pass (problemChecks P (problemFits P && more) outputs) e in
-      let sizes = sizes-passed m n (unless-none (sizesInRange m n) (a .0)) in
-      let inputs = and-true (problemFits P) more (unless-none (problemFits P && more) (a .1 .0)) in
-      let lengths = lengths-passed P (inputs .0) in
-      let modulusIn : (i : ℕ) → (pos 0 ≤ℤ nth moduli i) × (nth moduli i ≤ℤ pos 1000) =
-      λ i. between (pos 0) (pos 1000) (nth moduli i) (none-out modulusInRange refl moduli (a .1 .1 .1 .0) i) in
+      let inputs = and-both (problemFits P) more (unless-none (problemFits P && more) (a .1 .0)) in
+      let same : P ≡ problemOf n matrix moduli = ap (λ k. given k n matrix moduli) (sym (lengths-passed P (inputs .0) .1)) in
       record {
-        wellFormed = record {
-          m-low = omega (arith, sizes .m-low);
-          m-high = omega (arith, sizes .m-high);
-          n-low = sizes .n-low;
-          n-high = sizes .n-high;
-          matrix = rw (lengths .1) (lengths .0);
-          moduli = refl;
-          entries = λ i. small 1000 (nth matrix i) (none-out entryInRange refl matrix (a .1 .1 .1 .1 .0) i);
-          low = λ i. modulusIn i .0;
-          high = λ i. omega (zarith, modulusIn i .0, modulusIn i .1, parts (nth moduli i));
-        };
-        same = ap (λ k. given k n matrix moduli) (sym (lengths .1));
+        wellFormed = subst WellFormed same
+            (problem-accepted P (unless-none (sizesInRange m n) (a .0)) (inputs .0) (a .1 .1 .1 .0) (a .1 .1 .1 .1 .0));
+        same = same;
         also = inputs .1;
         room = unless-none outputs (a .1 .1 .0);
       }

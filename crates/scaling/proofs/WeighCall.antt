@@ -10,9 +10,9 @@ use lib.IntN.{ℤ}
 use borrow.Author.Tests.{leb-true, eqb-true}
 use Rattle.whole.specs.Lists.{nth}
 use Rattle.rules.specs.Limits.{roomWeights}
-use Rattle.rules.specs.Problem.{Problem}
+use Rattle.rules.specs.Problem.{Problem, WellFormed}
 use Rattle.rules.specs.Calls.{Verdict, refused, verdict, exponentsCheck, weights, filled, weighed, weighOf, weighVerdict}
-use Rattle.scaling.specs.Problem.{problemOf, WellFormed}
+use Rattle.scaling.specs.Problem.{problemOf}
 use Rattle.scaling.specs.Checks.{Says, given}
 use Rattle.scaling.specs.Terms.{Monomial}
 use Rattle.scaling.specs.Answers.{Weighs}

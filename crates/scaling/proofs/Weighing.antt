@@ -16,14 +16,14 @@ use Rattle.whole.specs.Sum.{sum}
 use Rattle.whole.proofs.Tests.{Test, pass, fail}
 use Rattle.whole.proofs.Order.{fits}
 use Rattle.whole.proofs.Division.{rem-le}
-use Rattle.rules.specs.Problem.{Problem, modulus}
+use Rattle.rules.specs.Problem.{Problem, modulus, WellFormed}
 use Rattle.rules.specs.Formulas.{rowTimes, weight}
-use Rattle.theory.proofs.MoreTests.{isZero?}
 use Rattle.theory.proofs.Weights.{weight-without, weight-with}
-use Rattle.scaling.specs.Problem.{problemOf, WellFormed}
+use Rattle.theory.proofs.Limits.{isZero?}
+use Rattle.theory.proofs.Sizes as sizes
+use Rattle.scaling.specs.Problem.{problemOf}
 use Rattle.scaling.specs.Terms.{from, Monomial, Products, Weight}
 use Rattle.scaling.proofs.Values.{fits32}
-use Rattle.scaling.proofs.Sums.{dot-small}
 
 -- the exponents from the front on
 pub from-front : (es : List ℤ) → from es 0 ≡ nth es
@@ -50,8 +50,7 @@ module _ {n : ℕ} {matrix moduli es : List ℤ} {start : ℕ} (F : WellFormed (
   }
 
   pub row-size : natAbs (rowTimes P v i) ≤ 160_000_000
-  unfolding rowTimes
-  row-size = dot-small row-products n (omega arith)
+  row-size = sizes.row-size P F v (λ j _. E .small (start + j)) i
 
   -- what `dot` adds up, read back
   pub row-read : (r : ℤ) → r ≡ sum n (λ j. nth matrix (i * n + j) *ℤ nth es (start + j)) → toZ w64 (ofZ w64 r) ≡ rowTimes P v i
@@ -59,7 +58,7 @@ module _ {n : ℕ} {matrix moduli es : List ℤ} {start : ℕ} (F : WellFormed (
   row-read r e = rw e (toZ-ofZ (fits w64 (rowTimes P v i) (omega (arith, row-size))))
 
   pub modulus-fits : SFits w32 (modulus P i)
-  modulus-fits = fits32 (modulus P i) (omega (arith, F .high i))
+  modulus-fits = fits32 (modulus P i) (omega (arith, F .moduli-high i))
 
   weight-size : natAbs (weight P v i) ≤ 160_000_000
   weight-size = go (isZero? (modulus P i))

@@ -1,14 +1,14 @@
 -- The three calls' answers and lent outputs, held to what rules/specs/Calls says of them; and what is known between the checks and the answer.
 use mathlib.Core.Path.{_≡_}
-use mathlib.Core.Bool.{Bool, true, false, cond}
+use mathlib.Core.Bool.{false, cond}
 use mathlib.Core.List.{List}
 use Prim.Native.Nat.{ℕ, _+_, _-_, _*_, _<_, _≤_}
 use lib.ListN.{length}
-use lib.IntN.{ℤ, natAbs}
+use lib.IntN.{ℤ}
 use Rattle.whole.specs.Lists.{nth}
-use Rattle.rules.specs.Limits.{beyond, mostTerms, roomH, roomV, roomW, roomCoefficients, roomExponents}
+use Rattle.rules.specs.Limits.{beyond, roomH, roomV, roomW, roomCoefficients, roomExponents}
 use Rattle.rules.specs.Problem.{Problem, N}
-use Rattle.rules.specs.Stages.{Run, run, W}
+use Rattle.rules.specs.Stages.{run, W}
 use Rattle.rules.specs.Formulas.{Formula, terms, term, translated, d}
 use Rattle.rules.specs.Calls as calls
 use Rattle.rules.specs.Calls.{Built, Weighed, Translated, termRefused, termNumber}
@@ -55,12 +55,6 @@ pub record RoomToTranslate (kept₀ translated₀ : List ℤ) : Type 0 where
 
 abbrev pub formulaOf : (coefficients exponents : List ℤ) → Formula
 formulaOf cs es = record { coefficients = cs; exponents = es }
-
--- n exponents for each of at most 64 terms, each within document 01's limit
-pub record GoodFormula (P : Problem) (f : Formula) : Type 0 where
-  pub few : terms f ≤ mostTerms
-  pub fits : length (f .exponents) ≡ terms f * P .n
-  pub small : (i : ℕ) → natAbs (nth (f .exponents) i) ≤ 10_000
 
 -- w and r are W and the rank of the problem's run, none of whose steps was beyond M
 pub record Solved (P : Problem) (w : List ℤ) (r : ℕ) : Type 0 where

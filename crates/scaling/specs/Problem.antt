@@ -1,17 +1,14 @@
--- The problem that a call's inputs say, and what is known of it once it has passed checks 1 to 5.
+-- The problem that a call's inputs say, its matrix C as the code writes it, and what its run ends with.
 use mathlib.Core.Path.{_≡_}
-use mathlib.Core.Bool.{Bool, true, false}
+use mathlib.Core.Bool.{false}
 use mathlib.Core.List.{List}
 use Prim.Native.Nat.{ℕ, suc, _+_, _*_, _/_, _%_, _<_, _≤_}
 use lib.ListN.{length, getD, set}
-use lib.IntN.{ℤ, pos, natAbs}
-use lib.Signed.{_≤ℤ_}
+use lib.IntN.{ℤ, pos}
 use Rattle.whole.specs.Lists.{nth}
 use Rattle.whole.specs.Matrix.{δ}
-use Rattle.rules.specs.Problem.{Problem, modulusRows, s, N, C, columns}
-use Rattle.rules.specs.Steps.{State, start}
+use Rattle.rules.specs.Problem.{Problem, modulusRows, s, N, C}
 use Rattle.rules.specs.Stages.{run}
-use Rattle.scaling.specs.declared.work.Work.{Work}
 use Rattle.scaling.specs.declared.run.ModulusRows.{ModulusRows}
 use Rattle.scaling.specs.declared.run.Outcome.{Outcome}
 use Rattle.scaling.specs.Join.{Tracks}
@@ -19,18 +16,6 @@ use Rattle.scaling.specs.Join.{Tracks}
 -- there is a modulus for each row, so that the rows need not be counted apart
 abbrev pub problemOf : (n : ℕ) (matrix moduli : List ℤ) → Problem
 problemOf n matrix moduli = record { m = length moduli; n = n; matrix = matrix; moduli = moduli }
-
--- within document 01's limits
-pub record WellFormed (P : Problem) : Type 0 where
-  pub m-low : 1 ≤ P .m
-  pub m-high : P .m ≤ 8
-  pub n-low : 1 ≤ P .n
-  pub n-high : P .n ≤ 16
-  pub matrix : length (P .matrix) ≡ P .m * P .n
-  pub moduli : length (P .moduli) ≡ P .m
-  pub entries : (i : ℕ) → natAbs (nth (P .matrix) i) ≤ 1000
-  pub low : (i : ℕ) → pos 0 ≤ℤ nth (P .moduli) i
-  pub high : (i : ℕ) → natAbs (nth (P .moduli) i) ≤ 1000
 
 -- q lists the rows with a modulus
 pub record Lists (P : Problem) (q : ModulusRows) : Type 0 where

@@ -1,6 +1,5 @@
 -- Exponents in a lent list, k followed by v in an array, and what of a term is refused.
 use mathlib.Core.Path.{_≡_}
-use mathlib.Core.Bool.{Bool, true, false}
 use mathlib.Core.List.{List, _++_}
 use Prim.Native.Nat.{ℕ, _+_, _*_, _<_, _≤_}
 use lib.ListN.{length, take, drop}
@@ -8,8 +7,7 @@ use lib.IntN.{ℤ, natAbs, _*ℤ_}
 use Rattle.whole.specs.Lists.{nth, tab}
 use Rattle.whole.specs.Sum.{sum}
 use Rattle.rules.specs.Problem.{Problem, s, N, modulus}
-use Rattle.rules.specs.Stages.{Run, run}
-use Rattle.rules.specs.Formulas.{weight, isFree, passes, kOf, kAnd, d, Formula, terms}
+use Rattle.rules.specs.Formulas.{weight, kOf, kAnd}
 use Rattle.scaling.specs.declared.formulas.Exponents.{Exponents}
 use Rattle.scaling.specs.Join.{Small}
 

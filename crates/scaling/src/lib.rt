@@ -6,16 +6,16 @@ ghost use Prim.Native.Nat.{ℕ, _<_, _≤_, _+_, _-_, _*_};
 ghost use lib.ListN.{length, take};
 ghost use lib.IntN.{natAbs};
 ghost use Rattle.whole.specs.Lists.{nth};
-ghost use Rattle.rules.specs.Problem.{N};
+ghost use Rattle.rules.specs.Problem.{N, WellFormed};
 ghost use Rattle.rules.specs.Stages as stages;
-ghost use Rattle.rules.specs.Formulas.{terms};
+ghost use Rattle.rules.specs.Formulas.{terms, WellFormedFormula};
 ghost use Rattle.rules.specs.Formulas as formula;
 ghost use Rattle.rules.specs.Calls.{verdict, rangeCheck, termsCheck, termsFault, filled, built, buildOf, weighOf, translatedTo, translateOf, translatedExponents, taken};
 ghost use Rattle.rules.specs.Calls as calls;
-ghost use Rattle.scaling.specs.Problem.{problemOf, WellFormed, Lists};
+ghost use Rattle.scaling.specs.Problem.{problemOf, Lists};
 ghost use Rattle.scaling.specs.Checks.{Says, given};
 ghost use Rattle.scaling.specs.Terms.{from, Monomial, rowOfW, RowsIn, written};
-ghost use Rattle.scaling.specs.Answers.{Builds, RoomToBuild, Weighs, Translates, RoomToTranslate, GoodFormula, formulaOf, Solved, judged, Passing, AllTaken};
+ghost use Rattle.scaling.specs.Answers.{Builds, RoomToBuild, Weighs, Translates, RoomToTranslate, formulaOf, Solved, judged, Passing, AllTaken};
 
 mod checks;
 mod formulas;
@@ -228,7 +228,7 @@ fn judge_all(
     requires { ⌜ WellFormed (problemOf n (now matrix) (now moduli)) ⌝ }
     requires { ⌜ Lists (problemOf n (now matrix) (now moduli)) q ⌝ }
     requires { ⌜ Solved (problemOf n (now matrix) (now moduli)) (now w) r ⌝ }
-    requires { ⌜ GoodFormula (problemOf n (now matrix) (now moduli)) (formulaOf (now coefficients) (now exponents)) ⌝ }
+    requires { ⌜ WellFormedFormula (problemOf n (now matrix) (now moduli)) (formulaOf (now coefficients) (now exponents)) ⌝ }
     ensures { λ x. ⌜ Says (x .number) (x .place) (verdict (termsCheck (problemOf n (now (matrix .entry)) (now (moduli .entry))) (stages.run (problemOf n (now (matrix .entry)) (now (moduli .entry)))) (formulaOf (now (coefficients .entry)) (now (exponents .entry))) ∷ [])) ⌝ }
 {
     let mut t = 0;
@@ -278,7 +278,7 @@ fn translate_all(
     requires { ⌜ WellFormed (problemOf n (now matrix) (now moduli)) ⌝ }
     requires { ⌜ Lists (problemOf n (now matrix) (now moduli)) q ⌝ }
     requires { ⌜ Solved (problemOf n (now matrix) (now moduli)) (now w) r ⌝ }
-    requires { ⌜ GoodFormula (problemOf n (now matrix) (now moduli)) (formulaOf (now coefficients) (now exponents)) ⌝ }
+    requires { ⌜ WellFormedFormula (problemOf n (now matrix) (now moduli)) (formulaOf (now coefficients) (now exponents)) ⌝ }
     requires { ⌜ (1024 ≤ length (now out)) × AllTaken (problemOf n (now matrix) (now moduli)) (formulaOf (now coefficients) (now exponents)) ⌝ }
     ensures { λ x. ⌜ now (out .exit) ≡ filled (translatedExponents (problemOf n (now (matrix .entry)) (now (moduli .entry))) (formulaOf (now (coefficients .entry)) (now (exponents .entry)))) (now (out .entry)) ⌝ }
 {
@@ -303,7 +303,7 @@ fn translate_checked(
     translated: &mut [i32],
 ) -> TranslateAnswer
     requires { ⌜ WellFormed (problemOf n (now matrix) (now moduli)) ⌝ }
-    requires { ⌜ GoodFormula (problemOf n (now matrix) (now moduli)) (formulaOf (now coefficients) (now exponents)) ⌝ }
+    requires { ⌜ WellFormedFormula (problemOf n (now matrix) (now moduli)) (formulaOf (now coefficients) (now exponents)) ⌝ }
     requires { ⌜ RoomToTranslate (now kept) (now translated) ⌝ }
     ensures { λ r. ⌜ Translates (translatedTo (problemOf n (now (matrix .entry)) (now (moduli .entry))) (formulaOf (now (coefficients .entry)) (now (exponents .entry))) (now (kept .entry)) (now (translated .entry)) (verdict (rangeCheck (stages.run (problemOf n (now (matrix .entry)) (now (moduli .entry)))) ∷ termsCheck (problemOf n (now (matrix .entry)) (now (moduli .entry))) (stages.run (problemOf n (now (matrix .entry)) (now (moduli .entry)))) (formulaOf (now (coefficients .entry)) (now (exponents .entry))) ∷ []))) r (now (kept .exit)) (now (translated .exit)) ⌝ }
 {

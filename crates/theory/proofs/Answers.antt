@@ -1,17 +1,14 @@
 -- There is one right answer, said of the lists that hold it: entries row after row, as the build writes them.
-use mathlib.Core.Path.{_≡_, sym, _∙_}
-use mathlib.Core.List.{List}
-use Prim.Native.Nat.{ℕ, _*_}
-use lib.ListN.{length}
-use lib.IntN.{ℤ}
+use mathlib.Core.Path.{_≡_}
+use Prim.Native.Nat.{ℕ}
 use Rattle.whole.specs.Matrix.{Matrix}
 use Rattle.rules.specs.Problem.{Problem, N}
 use Rattle.rules.specs.Forms.{Normal, Right}
 use Rattle.rules.specs.Stages
 use Rattle.rules.specs.Stages.{Run, run}
 use Rattle.rules.specs.Calls.{grid, contentsH, contentsV, contentsW}
-use Rattle.theory.proofs.MoreLists.{table, grid-cong, grid-of-table}
 use Rattle.theory.proofs.Unique.{normal-unique}
+use Rattle.theory.proofs.Grid.{grid-cong}
 
 -- ---- two right answers, written row after row
 pub record AlikeLists (m N r r′ : ℕ) (H H′ U U′ W W′ : Matrix) : Type 0 where
@@ -30,19 +27,6 @@ normal-lists-unique {m} {N} {H = H} {U = U} {W = W} {H′ = H′} {U′ = U′} 
       multipliers = grid-cong N N U U′ (a .multipliers);
       inverses = grid-cong N N W W′ (a .inverses);
     }
-
--- two right answers that are read from such lists
-pub read-lists-unique : {m N r r′ : ℕ} {C : Matrix} {hs us ws hs′ us′ ws′ : List ℤ}
-    → length hs ≡ m * N → length us ≡ N * N → length ws ≡ N * N → length hs′ ≡ m * N → length us′ ≡ N * N → length ws′ ≡ N * N
-    → Normal m N r C (table N hs) (table N us) (table N ws) → Normal m N r′ C (table N hs′) (table N us′) (table N ws′)
-    → (r ≡ r′) × (hs ≡ hs′) × (us ≡ us′) × (ws ≡ ws′)
-read-lists-unique {m} {N} {hs = hs} {us = us} {ws = ws} {hs′ = hs′} {us′ = us′} {ws′ = ws′} a b c a′ b′ c′ R R′ =
-    let l = normal-lists-unique R R′ in (
-      l .ranks,
-      sym (grid-of-table m N hs a) ∙ l .forms ∙ grid-of-table m N hs′ a′,
-      sym (grid-of-table N N us b) ∙ l .multipliers ∙ grid-of-table N N us′ b′,
-      sym (grid-of-table N N ws c) ∙ l .inverses ∙ grid-of-table N N ws′ c′,
-    )
 
 -- ---- the answer of a run
 -- the run u comes to a right answer for P

@@ -6,7 +6,8 @@ use Prim.Native.Nat.{ℕ, zero, suc, _*_, _/_, _^_, _≤_, _<_}
 use native.Mathlib.Omega.{arith}
 use native.Mathlib.Nat.{pow-succ'}
 use lib.Dec.{eqb}
-use Rattle.whole.proofs.Tests.{Test, pass, fail, eq?, eqb-false}
+use borrow.Author.Tests.{ne-eqb}
+use Rattle.whole.proofs.Tests.{Test, pass, fail, eq?}
 
 -- at most k times
 unfoldable pub bits : (k n : ℕ) → ℕ
@@ -50,7 +51,7 @@ bits-enough (suc k) n h = go (eq? n 0) (bits-enough k (n / 2) (omega (arith, pow
 
 bits-suc : (k b : ℕ) → b ≢ 0 → bits (suc k) b ≡ suc (bits k (b / 2))
 unfolding bits
-bits-suc k b d = rw (eqb-false b 0 d, bits)
+bits-suc k b d = rw (ne-eqb b 0 d, bits)
 
 -- less than half has fewer
 pub bits-half : (k a b : ℕ) → 2 * a < b → b < 2 ^ suc k → bits (suc k) a < bits (suc k) b

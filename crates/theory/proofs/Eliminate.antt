@@ -12,10 +12,10 @@ use lib.Signed.{quotZ, remZ}
 use Rattle.whole.proofs.Order.{natAbs-zero}
 use Rattle.whole.proofs.Solver.{_⊕_, _⊗_, ⊝_, _≟_, ring₃}
 use Rattle.whole.proofs.Division.{quot-rem, rem-lt}
+use Rattle.whole.proofs.Tests.{passed, failed}
 use Rattle.rules.specs.Search.{Found, total}
 use Rattle.rules.specs.Steps.{State, Table, get, addStep}
 use Rattle.rules.specs.Stages.{size, isOther, Next, done, adds, nextAdd, nextFor, next, repeatA, eliminate}
-use Rattle.theory.proofs.ExtraTests.{passed, failed}
 use Rattle.theory.proofs.Search.{In, FirstIs, no-first, is-first, first-is, is-other, Smallest, SmallestIs, all-zero, is-smallest, smallest-is, total-less}
 use Rattle.theory.proofs.StepLines.{count, add-count}
 use Rattle.theory.proofs.Entries.{filled-in, add-at, add-off}

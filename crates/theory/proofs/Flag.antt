@@ -2,20 +2,20 @@
 -- value beyond M.
 use mathlib.Core.Path.{_≡_, refl, sym, _∙_, ap}
 use mathlib.Core.Logic.{_↔_, _⊎_, inl, inr}
-use mathlib.Core.Bool.{Bool, true, false, _||_, or-false, or-assoc}
+use mathlib.Core.Bool.{Bool, true, false, _||_, or-true, or-false, or-assoc, false≢true}
 use mathlib.Core.List.{List, [], _∷_, _++_}
 use Prim.Native.Nat.{ℕ, zero, suc, _≤_, _<_}
 use native.Mathlib.Omega.{arith}
 use lib.ListN.{length}
-use lib.IntN.{ℤ, negℤ, natAbs}
+use lib.IntN.{ℤ, natAbs}
+use borrow.Author.Tests.{lt-ltb}
 use Rattle.whole.specs.Lists.{nth}
-use Rattle.whole.proofs.Tests.{Test, pass, fail, lt?, is-true}
+use Rattle.whole.proofs.Tests.{Test, pass, fail, lt?, or-either}
 use Rattle.rules.specs.Limits.{M, beyond}
 use Rattle.rules.specs.Problem.{Problem}
 use Rattle.rules.specs.Search.{Found, each}
-use Rattle.rules.specs.Steps.{State, Table, line, anyBeyond, swapStep, negateStep, plus, addStep, reorder}
+use Rattle.rules.specs.Steps.{State, Table, anyBeyond, swapStep, negateStep, addStep, reorder}
 use Rattle.rules.specs.Stages.{Progress, eliminate, reduce, bring, makePositive, settle, row, rows, stage1, stage2, reduceFirst, stage3, run}
-use Rattle.theory.proofs.ExtraTests.{true-not-false, or-true-left, or-true-right, or-true-cases}
 use Rattle.theory.proofs.Search.{each-keeps}
 use Rattle.theory.proofs.StepLines.{swap-flag, negate-flag, add-flag}
 use Rattle.theory.proofs.Moves.{Move, swap, negate, add}
@@ -81,21 +81,6 @@ pub anyBeyond-append : (xs ys : List ℤ) → anyBeyond (xs ++ ys) ≡ anyBeyond
 anyBeyond-append [] ys = refl
 anyBeyond-append (x ∷ xs) ys = ap (λ b. beyond x || b) (anyBeyond-append xs ys) ∙ sym (or-assoc (beyond x) (anyBeyond xs) (anyBeyond ys))
 
--- what an addition writes, table by table
-pub add-flag-parts : (i j : ℕ) (q : ℤ) (u : State) → addStep i j q u .over
-    ≡ u .over || (anyBeyond (plus q (line u j .t) (line u i .t)) || anyBeyond (plus q (line u j .v) (line u i .v))
-    || anyBeyond (plus (negℤ q) (line u i .w) (line u j .w)))
-add-flag-parts i j q u = add-flag i j q u ∙ ap (λ b. u .over || b) (anyBeyond-append (t ++ v) w ∙ ap (λ b. b || anyBeyond w) (anyBeyond-append t v))
-  where
-    t : List ℤ
-    t = plus q (line u j .t) (line u i .t)
-
-    v : List ℤ
-    v = plus q (line u j .v) (line u i .v)
-
-    w : List ℤ
-    w = plus (negℤ q) (line u i .w) (line u j .w)
-
 -- a value of xs is beyond M
 pub record SomeBeyond (xs : List ℤ) : Type 0 where
   pub place : ℕ
@@ -103,12 +88,12 @@ pub record SomeBeyond (xs : List ℤ) : Type 0 where
   pub large : M < natAbs (nth xs place)
 
 pub some-beyond : (xs : List ℤ) → anyBeyond xs ≡ true → SomeBeyond xs
-some-beyond [] e = absurd (true-not-false e refl)
-some-beyond (x ∷ xs) e = go (lt? M (natAbs x)) (or-true-cases (beyond x) (anyBeyond xs) e) (some-beyond xs)
+some-beyond [] e = absurd (false≢true e)
+some-beyond (x ∷ xs) e = go (lt? M (natAbs x)) (or-either (beyond x) (anyBeyond xs) e) (some-beyond xs)
   where
     go : {b : Bool} → Test (M < natAbs x) (natAbs x ≤ M) b → (b ≡ true) ⊎ (anyBeyond xs ≡ true) → (anyBeyond xs ≡ true → SomeBeyond xs) → SomeBeyond (x ∷ xs)
     go (pass h) y r = record { place = 0; listed = omega arith; large = h }
-    go (fail h) (inl z) r = absurd (true-not-false z refl)
+    go (fail h) (inl z) r = absurd (false≢true z)
     go (fail h) (inr z) r = let s : SomeBeyond xs = r z in record { place = suc (s .place); listed = omega (arith, s .listed); large = s .large }
 
 pub beyond-some : (xs : List ℤ) → SomeBeyond xs → anyBeyond xs ≡ true
@@ -116,8 +101,8 @@ beyond-some xs s = go xs (s .place) (s .listed) (s .large)
   where
     go : (xs : List ℤ) (i : ℕ) → i < length xs → M < natAbs (nth xs i) → anyBeyond xs ≡ true
     go [] i l h = absurd (omega arith)
-    go (x ∷ xs) zero l h = or-true-left (beyond x) (anyBeyond xs) (is-true (lt? M (natAbs x)) (λ k. omega arith))
-    go (x ∷ xs) (suc i) l h = or-true-right (beyond x) (anyBeyond xs) (go xs i (omega arith) h)
+    go (x ∷ xs) zero l h = rw (lt-ltb M (natAbs x) h)
+    go (x ∷ xs) (suc i) l h = rw (go xs i (omega arith) h) (or-true (beyond x))
 
 pub move-flag : {n lo a : ℕ} {u w : State} (m : Move n lo a u w) → w .over ≡ u .over || anyBeyond (writtenBy m)
 move-flag {u = u} (swap i j x y) = swap-flag i j u
@@ -133,15 +118,15 @@ steps-flag {u = u} (then s m) = move-flag m ∙ ap (λ b. b || anyBeyond (writte
 steps-flag (reordered a h s) = steps-flag s
 
 pub over-exactly : {n : ℕ} {u w : State} (s : Steps n u w) → (w .over ≡ true) ↔ ((u .over ≡ true) ⊎ SomeBeyond (written s))
-over-exactly {u = u} {w = w} s = (λ e. to (or-true-cases (u .over) (anyBeyond (written s)) (sym (steps-flag s) ∙ e)), λ e. steps-flag s ∙ back e)
+over-exactly {u = u} {w = w} s = (λ e. to (or-either (u .over) (anyBeyond (written s)) (sym (steps-flag s) ∙ e)), λ e. steps-flag s ∙ back e)
   where
     to : (u .over ≡ true) ⊎ (anyBeyond (written s) ≡ true) → (u .over ≡ true) ⊎ SomeBeyond (written s)
     to (inl e) = inl e
     to (inr e) = inr (some-beyond (written s) e)
 
     back : (u .over ≡ true) ⊎ SomeBeyond (written s) → u .over || anyBeyond (written s) ≡ true
-    back (inl e) = or-true-left (u .over) (anyBeyond (written s)) e
-    back (inr e) = or-true-right (u .over) (anyBeyond (written s)) (beyond-some (written s) e)
+    back (inl e) = ap (λ b. b || anyBeyond (written s)) e
+    back (inr e) = ap (λ b. u .over || b) (beyond-some (written s) e) ∙ or-true (u .over)
 
 -- ---- of a problem's run
 -- "a step of the build writes a value beyond M either way"
@@ -149,7 +134,7 @@ pub run-over : (P : Problem) → (run P .state .over ≡ true) ↔ SomeBeyond (w
 run-over P = (λ e. to (over-exactly (run-steps P) .0 e), λ s. over-exactly (run-steps P) .1 (inr s))
   where
     to : (false ≡ true) ⊎ SomeBeyond (written (run-steps P)) → SomeBeyond (written (run-steps P))
-    to (inl e) = absurd (true-not-false e refl)
+    to (inl e) = absurd (false≢true e)
     to (inr s) = s
 
 -- "the number of column steps"

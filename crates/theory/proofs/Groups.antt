@@ -29,9 +29,6 @@ module _ {m n r : ℕ} {H : Matrix} {row : ℕ → ℕ} (h : Hermite m n r H row
       go (yes b) = absurd (omega (arith, rows-climb (m - s) b, h .within (m - s) b))
       go (no b) = omega arith
 
-pub rank-le-m : {m n r : ℕ} {H : Matrix} {row : ℕ → ℕ} → Hermite m n r H row → r ≤ m
-rank-le-m h = omega (arith, rank-le-rows h 0 (λ j b. omega arith))
-
 module _ (P : Problem) (len : length (P .moduli) ≡ P .m) where
   -- a vector that C kills is 0 if its quantity part is
   pub killed-by-quantities : (x : ℕ → ℤ) → Kills (P .m) (N P) (C P) x → ((j : ℕ) → j < P .n → x (s P + j) ≡ pos 0)

@@ -9,12 +9,11 @@ use native.Mathlib.Decide.{ℕ-discrete, decLt}
 use lib.IntN.{ℤ, pos, natAbs, _*ℤ_, _-ℤ_, zero-*ℤ, *ℤ-zero, ℤ-discrete}
 use Rattle.whole.specs.Sum.{sum}
 use Rattle.whole.specs.Matrix.{Matrix, mul}
-use Rattle.whole.proofs.Order.{zarith, -is, parts, abs-is}
+use Rattle.whole.proofs.Order.{zarith, -is, parts, abs-is, below-suc, multiple-size}
 use Rattle.whole.proofs.Ring.{sub-zero→eq, eq→sub-zero}
 use Rattle.whole.proofs.Sum.{sum-out, sum-one}
 use Rattle.whole.proofs.Matrix.{mul-sub}
 use Rattle.rules.specs.Forms.{InRange, Hermite}
-use Rattle.theory.proofs.MoreNumbers.{below-suc, multiple-size}
 
 -- ---- the last non-zero index
 abbrev pub AllZero : ℕ → (ℕ → ℤ) → Type 0

@@ -7,12 +7,11 @@ use native.Mathlib.Decide.{ℕ-discrete, decLt}
 use lib.IntN.{ℤ, natAbs, _*ℤ_, _-ℤ_, zero-*ℤ, *ℤ-zero, +ℤ-invr}
 use Rattle.whole.specs.Sum.{sum}
 use Rattle.whole.specs.Matrix.{Matrix, mul, δ}
-use Rattle.whole.proofs.Order.{zarith, parts}
+use Rattle.whole.proofs.Order.{zarith, parts, multiple-size}
 use Rattle.whole.proofs.Ring.{sub-zero→eq}
 use Rattle.whole.proofs.Sum.{sum-out, sum-head}
 use Rattle.whole.proofs.Matrix.{mul-is, mul-one, mul-sub}
 use Rattle.rules.specs.Forms.{Hermite}
-use Rattle.theory.proofs.MoreNumbers.{multiple-size}
 use Rattle.theory.proofs.KeyLemma.{AllZero, LastNonZero, all-zero-or-last, zero-below, pivot-times-last}
 use Rattle.theory.proofs.KeyLemma.{pivot-size, in-range, columns-rise, small-is-zero, ranges-near}
 

@@ -1,7 +1,7 @@
 -- Theorems about `rules`, none about code. For every problem: any m, n, entries and moduli, unless a line says otherwise.
 --
 -- 1. Kept throughout: T = C·V, V·W = I, W·V = I and the shapes hold at the start, after every column step and after the reordering.
---      Start.start-holds, Holds.swap-holds, .negate-holds, .add-holds, .reorder-holds; of any sequence of steps Sequence.steps-hold, .steps-shape
+--      Start.start-holds, .start-shape, Holds.swap-holds, .negate-holds, .add-holds, .reorder-holds; of any sequence of steps Sequence.steps-hold, .steps-shape
 -- 2. Every repetition ends: in (A) the sum of absolute values in the active columns falls, and the definition's bound cuts no step off.
 --      Eliminate.total-falls, .eliminate-ends
 -- 3. The run of any problem comes to a right answer; and what each stage leaves.
@@ -15,17 +15,17 @@
 --      Kernel.last-killed, .killed-is, .killed-only; Groups.pivots-in-quantities, .d-le-n, .s-le-rank, .groups-hermite
 -- 7. Translation: the groups to the translated exponents give a free v back, no other whole exponents do, and a v that is not free has none at
 --    all; a translated formula goes back term for term.
---      Translation.translated-back, .translated-only, .free-of-groups, .formula-translated-back, .formula-translated-only
+--      Translation.translated-back, .translated-only, .free-of-groups, .formula-translated-back, .formula-translated-only; the all-zero
+--      exponents and d = 0: .zero-is-free, .free-without-groups
 -- 8. Sizes within document 01's limits: every sum and product that code takes stays within 63 bits, the outputs have room, and an accepted run
 --    takes few steps.
---      Sizes.add-size, .row-begun-size, .translated-begun-fits, .room-for-H and its like; RunRange.run-entries; RunBound.run-bound
+--      Sizes.add-size, .row-begun-size, .translated-begun-fits, .room-for-H and its like; RunRange.well-formed-moderate,
+--      .run-entries, .run-entriesW; RunBound.run-bound
 
--- ---- tests, numbers, lists and searches, beyond what `whole` has
-pub mod ExtraTests
-pub mod MoreTests
-pub mod MoreNumbers
-pub mod MoreLists
-pub mod MoreSearch
+-- ---- the tests of rules' Limits, grids and bytes of numbers, and the searches
+pub mod Limits
+pub mod Grid
+pub mod Bytes
 pub mod Search
 -- ---- 1: the state after each step and after the reordering, and sequences of steps
 pub mod StepLines
@@ -69,9 +69,9 @@ pub mod RunRange
 pub mod Bits
 pub mod StepBound
 pub mod RunBound
--- ---- what an accepted call knows of its input
+-- ---- what an accepted call knows of its input, and what a refusal says
 pub mod Accepted
--- ---- for code: the recursions as loops meet them, and what a state must hold to be a step's result
+pub mod Refusals
+-- ---- for code: the recursions as loops meet them
 pub mod Loops
 pub mod Repetition
-pub mod SameState

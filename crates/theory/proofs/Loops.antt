@@ -5,41 +5,34 @@ use mathlib.Core.Bool.{Bool, true, false}
 use Prim.Native.Nat.{ℕ, zero, suc, _-_, _≤_, _<_}
 use native.Mathlib.Omega.{arith}
 use native.Mathlib.Decide.{ℕ-discrete}
-use lib.Dec.{ltb}
-use Rattle.whole.proofs.Tests.{lt?, is-true, is-false}
+use borrow.Author.Tests.{lt-ltb, le-ltb}
 use Rattle.rules.specs.Search.{Found, none, found, orAt, first, last, orSmaller, smallest, each}
 use Rattle.rules.specs.Steps.{State, Table}
 use Rattle.rules.specs.Stages.{size, next, eliminate, settle, Progress, settled, row, rows, pivotRow, reduceFirst, stage3}
 use Rattle.theory.proofs.Search.{In, SmallestIs, all-zero, is-smallest, smallest-is, smallest-none}
 use Rattle.theory.proofs.Eliminate.{eliminate-done, eliminate-alone, eliminate-filled}
 
-ltb-yes : (m n : ℕ) → m < n → ltb m n ≡ true
-ltb-yes m n h = is-true (lt? m n) (λ k. omega arith)
-
-ltb-no : (m n : ℕ) → n ≤ m → ltb m n ≡ false
-ltb-no m n h = is-false (lt? m n) (λ k. omega arith)
-
 -- ---- the smallest
 module _ (f : ℕ → ℕ) (lo : ℕ) where
   pub smallest-start : (c : ℕ) → c ≤ lo → smallest f lo c ≡ none
   unfolding smallest
   smallest-start zero h = refl
-  smallest-start (suc c) h = rw (ltb-yes c lo h, smallest)
+  smallest-start (suc c) h = rw (lt-ltb c lo h, smallest)
 
   pub smallest-step : (c : ℕ) → lo ≤ c → smallest f lo (suc c) ≡ orSmaller f c (smallest f lo c)
   unfolding smallest
-  smallest-step c h = rw (ltb-no c lo h, smallest)
+  smallest-step c h = rw (le-ltb c lo h, smallest)
 
 -- ---- the first
 module _ (test : ℕ → Bool) (lo : ℕ) where
   pub first-start : (c : ℕ) → c ≤ lo → first test lo c ≡ none
   unfolding first
   first-start zero h = refl
-  first-start (suc c) h = rw (ltb-yes c lo h, first)
+  first-start (suc c) h = rw (lt-ltb c lo h, first)
 
   pub first-step : (c : ℕ) → lo ≤ c → first test lo (suc c) ≡ orAt test c (first test lo c)
   unfolding first
-  first-step c h = rw (ltb-no c lo h, first)
+  first-step c h = rw (le-ltb c lo h, first)
 
   -- a search that has found is left
   pub first-stop : (j c hi : ℕ) → c ≤ hi → lo ≤ c → first test lo c ≡ found j → first test lo hi ≡ found j
@@ -59,6 +52,10 @@ module _ (test : ℕ → Bool) (lo : ℕ) where
   first-hit c hi h l e t = first-stop c (suc c) hi l (omega arith) (first-step c h ∙ ap (orAt test c) e ∙ rw t)
 
 -- ---- the last, from the end down
+pub last-end : (test : ℕ → Bool) → last test 0 ≡ none
+unfolding last
+last-end test = refl
+
 module _ (test : ℕ → Bool) (c : ℕ) where
   pub last-hit : test c ≡ true → last test (suc c) ≡ found c
   unfolding last
@@ -73,11 +70,11 @@ module _ {S : Type 0} (f : ℕ → S → S) (lo : ℕ) (s : S) where
   pub each-start : (c : ℕ) → c ≤ lo → each f lo c s ≡ s
   unfolding each
   each-start zero h = refl
-  each-start (suc c) h = rw (ltb-yes c lo h, each)
+  each-start (suc c) h = rw (lt-ltb c lo h, each)
 
   pub each-step : (c : ℕ) → lo ≤ c → each f lo (suc c) s ≡ f c (each f lo c s)
   unfolding each
-  each-step c h = rw (ltb-no c lo h, each)
+  each-step c h = rw (le-ltb c lo h, each)
 
 -- ---- the rows of a stage, from the last to the first
 module _ (tb : Table) (n lo : ℕ) (g : Progress) where
@@ -94,11 +91,11 @@ module _ (n r : ℕ) (u : State) where
   pub stage3-end : (c : ℕ) → c ≤ r → stage3 n r c u ≡ u
   unfolding stage3
   stage3-end zero h = refl
-  stage3-end (suc c) h = rw (ltb-yes c r h, stage3)
+  stage3-end (suc c) h = rw (lt-ltb c r h, stage3)
 
   pub stage3-step : (c : ℕ) → r ≤ c → stage3 n r (suc c) u ≡ stage3 n r c (reduceFirst r c u (pivotRow n c u))
   unfolding stage3
-  stage3-step c h = rw (ltb-no c r h, stage3)
+  stage3-step c h = rw (le-ltb c r h, stage3)
 
 -- ---- a row: "if the row is all zero, go to the next row"
 pub row-pass : (tb : Table) (n lo k : ℕ) (g : Progress) → ((c : ℕ) → In lo (g .a) c → size tb (g .state) k c ≡ 0) → row tb n lo k g ≡ g

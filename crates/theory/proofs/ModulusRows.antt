@@ -11,7 +11,7 @@ use lib.IntN.{ℤ, pos, ℤ-discrete}
 use Rattle.whole.specs.Lists.{nth}
 use Rattle.whole.proofs.Tests.{Test, pass, fail}
 use Rattle.rules.specs.Problem.{Problem, modulus, modulusRowsFrom, modulusRows, s}
-use Rattle.theory.proofs.MoreTests.{isZero?}
+use Rattle.theory.proofs.Limits.{isZero?}
 
 -- rows lists, rising, the indices of the numbers of ps that are not 0, where the first number has index i
 record NonZeroRows (i : ℕ) (ps : List ℤ) (rows : List ℕ) : Type 0 where

@@ -1,6 +1,5 @@
 -- What the three steps keep, whatever the columns, every part of the run keeps: for facts that need no bounds, such as that the flag never falls.
 use mathlib.Core.Bool.{Bool, true, false}
-use mathlib.Core.List.{List}
 use Prim.Native.Nat.{ℕ, zero, suc, _-_}
 use lib.Dec.{ltb, eqb}
 use lib.IntN.{ℤ, pos, negℤ}
@@ -8,8 +7,8 @@ use lib.Signed.{ltZ}
 use Rattle.whole.specs.Division.{floorZ}
 use Rattle.rules.specs.Limits.{isZero}
 use Rattle.rules.specs.Search.{Found, none, found, total}
-use Rattle.rules.specs.Steps.{State, Table, onV, get, swapStep, negateStep, addStep, reorder, start}
-use Rattle.rules.specs.Stages.{size, pivotColumn, Next, done, adds, next, repeatA, eliminate, reduce, bring, makePositive, settle, Progress, settled, row, rows, stage1, stage2, pivotRow, reduceFirst, stage3, runOn}
+use Rattle.rules.specs.Steps.{State, Table, onV, get, swapStep, negateStep, addStep}
+use Rattle.rules.specs.Stages.{size, pivotColumn, Next, done, adds, next, repeatA, eliminate, reduce, bring, makePositive, settle, Progress, settled, row, rows, stage1, stage2, pivotRow, reduceFirst, stage3}
 use Rattle.theory.proofs.Search.{each-keeps}
 
 module _ (Q : State → Type 0)
@@ -100,11 +99,3 @@ module _ (Q : State → Type 0)
       go : (b : Bool) → ((w : State) → Q w → Q (stage3 n r c w)) → Q (elim b [ true ↦ u | false ↦ stage3 n r c (reduceFirst r c u (pivotRow n c u)) ])
       go true r₂ = q
       go false r₂ = r₂ (reduceFirst r c u (pivotRow n c u)) (reduceFirst-keeps r c u (pivotRow n c u) q)
-
-  pub runOn-keeps : (reorder-q : (a : ℕ) (u : State) → Q u → Q (reorder a u)) (m n : ℕ) (cols : List (List ℤ)) → Q (start cols) → Q (runOn m n cols .state)
-  unfolding runOn
-  runOn-keeps reorder-q m n cols q =
-      let g : Progress = stage1 m n (start cols) in
-      let r : ℕ = n - g .a in
-      let h : Progress = stage2 n r (reorder (g .a) (g .state)) in
-      stage3-keeps n r n (h .state) (stage2-keeps n r (reorder (g .a) (g .state)) (reorder-q (g .a) (g .state) (stage1-keeps m n (start cols) q)))

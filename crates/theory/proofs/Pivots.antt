@@ -1,18 +1,17 @@
 -- A finished column and its pivot, as the stages leave it, and how finished columns make a column Hermite form of rules/specs/Forms.
-use mathlib.Core.Path.{_≡_, refl, _∙_, ap}
+use mathlib.Core.Path.{_≡_, _∙_, ap}
 use mathlib.Core.Logic.{_≢_}
-use mathlib.Core.Bool.{Bool, true, false, not}
+use mathlib.Core.Bool.{Bool, true, false, not, true≢false}
 use Prim.Native.Nat.{ℕ, suc, _+_, _≤_, _<_}
 use native.Mathlib.Omega.{arith}
 use lib.IntN.{ℤ, pos, natAbs}
 use lib.Signed.{_<ℤ_}
 use Rattle.whole.specs.Matrix.{Matrix}
-use Rattle.whole.proofs.Tests.{Test, pass, fail, lt?, eq?}
+use Rattle.whole.proofs.Tests.{Test, pass, fail, lt?, eq?, true-not-false}
 use Rattle.whole.proofs.Order.{zarith, natAbs-zero}
 use Rattle.rules.specs.Limits.{isZero}
 use Rattle.rules.specs.Forms.{InRange, Hermite}
 use Rattle.rules.specs.Search.{Found, none, found, last}
-use Rattle.theory.proofs.ExtraTests.{true-not-false}
 use Rattle.theory.proofs.Search.{In, LastIs, no-last, is-last, last-is}
 
 -- column c of A is finished, among columns lo to hi: its pivot stands in row 'at', at or below row k of m
@@ -81,7 +80,7 @@ pivot-found A lo hi m k c p = go (last-is (λ r. not (isZero (A r c))) m)
       where
         from : {b : Bool} → Test (natAbs x ≡ 0) (natAbs x ≢ 0) b → not b ≡ false → ⊥
         from (pass e) z = let o : x ≡ pos 0 = natAbs-zero x e in omega zarith
-        from (fail d) z = true-not-false refl z
+        from (fail d) z = true≢false z
 
     same : {b b′ : Bool} (r : ℕ) → r < m → not (isZero (A r c)) ≡ true → ((i : ℕ) → r < i → i < m → not (isZero (A i c)) ≡ false)
         → Test (p .at < r) (r ≤ p .at) b → Test (r < p .at) (p .at ≤ r) b′ → r ≡ p .at

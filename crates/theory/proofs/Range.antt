@@ -1,18 +1,16 @@
 -- Without the flag every entry is within M: the flag looks only at what the steps write, and the rest was within M before.
 use mathlib.Core.Path.{_≡_, refl, sym, _∙_}
-use mathlib.Core.Bool.{Bool, false, or-false}
-use mathlib.Core.List.{List, [], _∷_, _++_, map}
+use mathlib.Core.Bool.{Bool, false}
+use mathlib.Core.List.{List, [], _∷_, _++_}
 use Prim.Native.Nat.{ℕ, zero, suc, _≤_, _<_}
 use native.Mathlib.Omega.{arith}
 use lib.ListN.{length, List·getD-eq-default}
-use lib.IntN.{ℤ, negℤ, natAbs}
+use lib.IntN.{ℤ, natAbs}
 use Rattle.whole.specs.Lists.{nth}
-use Rattle.whole.proofs.Tests.{Test, pass, fail, lt?, is-false}
-use Rattle.whole.proofs.Order.{abs-neg}
+use Rattle.whole.proofs.Tests.{Test, pass, fail, lt?, is-false, failed, or-neither}
 use Rattle.rules.specs.Limits.{M, beyond}
 use Rattle.rules.specs.Steps.{Line, State, blank, line, Table, onT, onV, get, getW, anyBeyond, values, swapStep, negated, negateStep, source, target, addStep, reorder}
-use Rattle.theory.proofs.ExtraTests.{failed, or-false-left, or-false-right}
-use Rattle.theory.proofs.StepLines.{count, swap-flag, negate-flag}
+use Rattle.theory.proofs.StepLines.{count}
 use Rattle.theory.proofs.Moves.{Move, swap, negate, add, move-count}
 use Rattle.theory.proofs.Reorder.{reorder-count}
 use Rattle.theory.proofs.Lines.{Every, swap-every, negate-every, add-every, reorder-every}
@@ -21,13 +19,10 @@ use Rattle.theory.proofs.Flag.{anyBeyond-append, move-flag}
 
 -- ---- lists
 append-left : (xs ys : List ℤ) → anyBeyond (xs ++ ys) ≡ false → anyBeyond xs ≡ false
-append-left xs ys e = or-false-left (anyBeyond xs) (anyBeyond ys) (sym (anyBeyond-append xs ys) ∙ e)
+append-left xs ys e = or-neither (anyBeyond xs) (anyBeyond ys) (sym (anyBeyond-append xs ys) ∙ e) .0
 
 append-right : (xs ys : List ℤ) → anyBeyond (xs ++ ys) ≡ false → anyBeyond ys ≡ false
-append-right xs ys e = or-false-right (anyBeyond xs) (anyBeyond ys) (sym (anyBeyond-append xs ys) ∙ e)
-
-append-none : (xs ys : List ℤ) → anyBeyond xs ≡ false → anyBeyond ys ≡ false → anyBeyond (xs ++ ys) ≡ false
-append-none xs ys e f = anyBeyond-append xs ys ∙ rw (e, f)
+append-right xs ys e = or-neither (anyBeyond xs) (anyBeyond ys) (sym (anyBeyond-append xs ys) ∙ e) .1
 
 pub none-beyond : (xs : List ℤ) → ((i : ℕ) → i < length xs → natAbs (nth xs i) ≤ M) → anyBeyond xs ≡ false
 none-beyond [] h = refl
@@ -35,12 +30,8 @@ none-beyond (x ∷ xs) h = rw (is-false (lt? M (natAbs x)) (λ k. omega (arith, 
 
 pub beyond-none : (xs : List ℤ) → anyBeyond xs ≡ false → (i : ℕ) → natAbs (nth xs i) ≤ M
 beyond-none [] e i = omega arith
-beyond-none (x ∷ xs) e zero = failed (lt? M (natAbs x)) (or-false-left (beyond x) (anyBeyond xs) e)
-beyond-none (x ∷ xs) e (suc i) = beyond-none xs (or-false-right (beyond x) (anyBeyond xs) e) i
-
-beyond-negated : (xs : List ℤ) → anyBeyond (map negℤ xs) ≡ anyBeyond xs
-beyond-negated [] = refl
-beyond-negated (x ∷ xs) = rw (abs-neg x, beyond-negated xs)
+beyond-none (x ∷ xs) e zero = failed (lt? M (natAbs x)) (or-neither (beyond x) (anyBeyond xs) e .0)
+beyond-none (x ∷ xs) e (suc i) = beyond-none xs (or-neither (beyond x) (anyBeyond xs) e .1) i
 
 -- ---- lines
 -- all numbers of a line are within M
@@ -49,26 +40,10 @@ pub record Near (l : Line) : Type 0 where
   pub v : anyBeyond (l .v) ≡ false
   pub w : anyBeyond (l .w) ≡ false
 
-pub values-near : (l : Line) → Near l → anyBeyond (values l) ≡ false
-values-near l h = append-none (l .t ++ l .v) (l .w) (append-none (l .t) (l .v) (h .t) (h .v)) (h .w)
-
 pub near-values : (l : Line) → anyBeyond (values l) ≡ false → Near l
 near-values l e =
     let tv : anyBeyond (l .t ++ l .v) ≡ false = append-left (l .t ++ l .v) (l .w) e in
     record { t = append-left (l .t) (l .v) tv; v = append-right (l .t) (l .v) tv; w = append-right (l .t ++ l .v) (l .w) e }
-
-pub near-negated : (l : Line) → Near l → Near (negated l)
-near-negated l h = record { t = beyond-negated (l .t) ∙ h .t; v = beyond-negated (l .v) ∙ h .v; w = beyond-negated (l .w) ∙ h .w }
-
--- ---- only an addition can set the flag
-pub swap-keeps-flag : (i j : ℕ) (u : State) → Near (line u i) → Near (line u j) → swapStep i j u .over ≡ u .over
-swap-keeps-flag i j u x y =
-    let none : anyBeyond (values (line u j) ++ values (line u i)) ≡ false =
-    append-none (values (line u j)) (values (line u i)) (values-near (line u j) y) (values-near (line u i) x) in
-    swap-flag i j u ∙ rw none (or-false (u .over))
-
-pub negate-keeps-flag : (i : ℕ) (u : State) → Near (line u i) → negateStep i u .over ≡ u .over
-negate-keeps-flag i u x = negate-flag i u ∙ rw (values-near (negated (line u i)) (near-negated (line u i) x)) (or-false (u .over))
 
 -- ---- states
 -- u has n lines, and they are all near unless the flag is set
@@ -79,10 +54,10 @@ pub record Fine (n : ℕ) (u : State) : Type 0 where
 -- what a step says of the state before it, and of what it wrote, if the flag is not set after it
 module _ {n lo a : ℕ} {u w : State} (m : Move n lo a u w) (e : w .over ≡ false) where
   not-before : u .over ≡ false
-  not-before = or-false-left (u .over) (anyBeyond (writtenBy m)) (sym (move-flag m) ∙ e)
+  not-before = or-neither (u .over) (anyBeyond (writtenBy m)) (sym (move-flag m) ∙ e) .0
 
   not-written : anyBeyond (writtenBy m) ≡ false
-  not-written = or-false-right (u .over) (anyBeyond (writtenBy m)) (sym (move-flag m) ∙ e)
+  not-written = or-neither (u .over) (anyBeyond (writtenBy m)) (sym (move-flag m) ∙ e) .1
 
   lines-before : Fine n u → Every n Near u
   lines-before h = record { lines = h .lines; all = h .near not-before }

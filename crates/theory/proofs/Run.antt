@@ -3,9 +3,8 @@ use mathlib.Core.Path.{_≡_, subst}
 use mathlib.Core.List.{List}
 use Prim.Native.Nat.{ℕ, _-_}
 use native.Mathlib.Omega.{arith}
-use lib.ListN.{length, length-append, length-map}
+use lib.ListN.{length}
 use lib.IntN.{ℤ}
-use Rattle.whole.proofs.Lists.{length-tab}
 use Rattle.rules.specs.Problem.{Problem, N, C, columns}
 use Rattle.rules.specs.Forms.{Normal, Right}
 use Rattle.rules.specs.Steps.{State, onT, reorder, start}
@@ -15,6 +14,7 @@ use Rattle.theory.proofs.Start.{matrixOf, start-holds}
 use Rattle.theory.proofs.Sequence.{Steps, begin, reordered, follow}
 use Rattle.theory.proofs.Stage.{Advanced}
 use Rattle.theory.proofs.AfterStages.{AfterFirst, first-advanced, first-is, AfterSecond, second-is, late-moves, end-normal}
+use Rattle.theory.proofs.Shape.{length-columns}
 
 -- ---- the run
 module _ (m n : ℕ) (cols : List (List ℤ)) (e : length cols ≡ n) where
@@ -49,10 +49,6 @@ module _ (m n : ℕ) (cols : List (List ℤ)) (e : length cols ≡ n) where
       (late-moves m n (matrixOf cols) rank (reorder (first .a) (first .state)) second after-first after-second)
 
 -- ---- a problem's run
-pub length-columns : (P : Problem) → length (columns P) ≡ N P
-unfolding columns
-length-columns P = simp (length-append, length-map, length-tab) (omega arith)
-
 pub run-right : (P : Problem) → Right P (run P .rank) (H (run P)) (U (run P)) (W (run P))
 unfolding run C
 run-right P = runOn-normal (P .m) (N P) (columns P) (length-columns P)

@@ -6,10 +6,10 @@ use Prim.Native.Nat.{ℕ, _+_, _*_, _-_, _≤_}
 use native.Mathlib.Omega.{arith}
 use native.Mathlib.Nat.{mul-le-mul-left}
 use lib.IntN.{ℤ}
+use Rattle.whole.proofs.Tests.{false-of}
 use Rattle.rules.specs.Problem.{Problem, N, columns}
 use Rattle.rules.specs.Steps.{State, onT, onV, reorder, start}
 use Rattle.rules.specs.Stages.{Progress, stage1, stage2, stage3, runOn, run}
-use Rattle.theory.proofs.ExtraTests.{false-of}
 use Rattle.theory.proofs.Sequence.{begin, reordered, follow}
 use Rattle.theory.proofs.Stage.{Advanced, no-row-done, stage-is}
 use Rattle.theory.proofs.Flag.{stage2-over, stage3-over}

@@ -3,25 +3,22 @@ use mathlib.Core.Path.{_≡_, refl, subst}
 use mathlib.Core.Logic.{_≢_}
 use mathlib.Core.Bool.{Bool, true, false}
 use mathlib.Core.List.{List, [], _∷_, _++_, map}
-use Prim.Native.Nat.{ℕ, zero, suc, _-_, _≤_, _<_}
+use Prim.Native.Nat.{ℕ, zero, suc, _+_, _-_, _*_, _≤_, _<_}
 use native.Mathlib.Omega.{arith}
 use lib.Dec.{eqb}
 use lib.ListN.{length, getD, replicate, List·getD-append, length-append}
 use lib.IntN.{ℤ, pos, negℤ, natAbs}
-use lib.Signed.{_≤ℤ_, leZ, leZ-yes}
 use Rattle.whole.specs.Lists.{tab}
 use Rattle.whole.proofs.Tests.{Test, pass, fail, lt?, eq?}
-use Rattle.whole.proofs.Order.{zarith, parts, abs-is, abs-neg}
+use Rattle.whole.proofs.Order.{abs-neg}
 use Rattle.whole.proofs.Lists.{length-tab, nth-tab, nth-rest}
-use Rattle.rules.specs.Limits.{M, within, entryInRange, modulusInRange}
-use Rattle.rules.specs.Problem.{Problem, entry, modulus, N, modulusRows, modulusColumn, modulusColumns, quantityColumns, columns}
+use Rattle.rules.specs.Limits.{M}
+use Rattle.rules.specs.Problem.{Problem, WellFormed, entry, modulus, N, modulusRows, modulusColumn, modulusColumns, quantityColumns, columns}
 use Rattle.rules.specs.Steps.{Table, get, getW, anyBeyond, unit, start}
 use Rattle.rules.specs.Stages.{run}
-use Rattle.theory.proofs.ExtraTests.{and-true-left, and-true-right}
-use Rattle.theory.proofs.Lines.{Shape}
-use Rattle.theory.proofs.Start.{start-count, start-line, start-shape}
-use Rattle.theory.proofs.Sequence.{steps-shape}
-use Rattle.theory.proofs.Run.{length-columns, run-steps}
+use Rattle.theory.proofs.Start.{start-count, start-line}
+use Rattle.theory.proofs.Run.{run-steps}
+use Rattle.theory.proofs.Shape.{length-columns}
 use Rattle.theory.proofs.Range.{none-beyond, Fine, steps-fine, fine-get, fine-getW}
 
 -- ---- what holds of every modulus column and of every quantity column holds of every column of C
@@ -44,19 +41,16 @@ module _ (Q : List ℤ → Type 0) (P : Problem)
           let l₂ : j < P .n = omega (arith, length-append (modulusColumns P) (quantityColumns P), length-tab (P .n) (λ j. tab (P .m) (λ i. entry P i j))) in
           rw (nth-rest (modulusColumns P) (quantityColumns P) c [] k, nth-tab (P .n) (λ j. tab (P .m) (λ i. entry P i j)) j [] l₂) (quantities j l₂)
 
--- ---- lengths
-pub run-shape : (P : Problem) → Shape (P .m) (N P) (run P .state)
-run-shape P = steps-shape (P .m) (run-steps P)
-    (subst (λ (n : ℕ). Shape (P .m) n (start (columns P))) (length-columns P) (start-shape (columns P) (P .m) long))
-  where
-    long : (c : ℕ) → c < length (columns P) → length (getD (columns P) c []) ≡ P .m
-    long = every-column (λ c. length c ≡ P .m) P
-        (λ i. length-tab (P .m) (λ r. elim (eqb i r) [ true ↦ negℤ (modulus P i) | false ↦ pos 0 ])) (λ j _. length-tab (P .m) (λ i. entry P i j))
-
 -- ---- the start is within M, if the problem is
 pub record Moderate (P : Problem) : Type 0 where
   pub entries : (i j : ℕ) → i < P .m → j < P .n → natAbs (entry P i j) ≤ M
   pub moduli : (i : ℕ) → i < P .m → natAbs (modulus P i) ≤ M
+
+pub well-formed-moderate : (P : Problem) → WellFormed P → Moderate P
+well-formed-moderate P g = record {
+  entries = λ i j _ _. omega (arith, g .entries (i * P .n + j));
+  moduli = λ i _. omega (arith, g .moduli-high i);
+}
 
 none-beyond-tab : (m : ℕ) (f : ℕ → ℤ) → ((i : ℕ) → i < m → natAbs (f i) ≤ M) → anyBeyond (tab m f) ≡ false
 none-beyond-tab m f h = none-beyond (tab m f) (λ i l. let k : i < m = omega (arith, length-tab m f) in rw (nth-tab m f i (pos 0) k) (h i k))
@@ -91,23 +85,6 @@ problem-fine P h = subst (λ (n : ℕ). Fine n (start (columns P))) (length-colu
 
 pub run-fine : (P : Problem) → Moderate P → Fine (N P) (run P .state)
 run-fine P h = steps-fine (run-steps P) (problem-fine P h)
-
--- ---- document 01's limits
-pub record InLimits (P : Problem) : Type 0 where
-  pub entries : (i j : ℕ) → i < P .m → j < P .n → entryInRange (entry P i j) ≡ true
-  pub moduli : (i : ℕ) → i < P .m → modulusInRange (modulus P i) ≡ true
-
-within-small : (lo hi z : ℤ) → natAbs lo ≤ M → natAbs hi ≤ M → within lo hi z ≡ true → natAbs z ≤ M
-within-small lo hi z l h e =
-    let x : lo ≤ℤ z = leZ-yes (rw (and-true-left (leZ lo z) (leZ z hi) e) tt) in
-    let y : z ≤ℤ hi = leZ-yes (rw (and-true-right (leZ lo z) (leZ z hi) e) tt) in
-    omega (zarith, parts z, abs-is lo, abs-is hi)
-
-pub limits-moderate : (P : Problem) → InLimits P → Moderate P
-limits-moderate P h = record {
-  entries = λ i j k l. within-small (negℤ (pos 1000)) (pos 1000) (entry P i j) (omega arith) (omega arith) (h .entries i j k l);
-  moduli = λ i l. within-small (pos 0) (pos 1000) (modulus P i) (omega arith) (omega arith) (h .moduli i l);
-}
 
 -- ---- so without the flag every entry of T, V and W is within M
 pub run-entries : (P : Problem) → Moderate P → run P .state .over ≡ false → (tb : Table) (i j : ℕ) → natAbs (get tb (run P .state) i j) ≤ M

@@ -6,9 +6,11 @@ use Prim.Native.Nat.{ℕ, zero, suc, _+_, _≤_, _<_}
 use native.Mathlib.Omega.{arith}
 use native.Mathlib.Decide.{ℕ-discrete}
 use lib.Dec.{ltb}
-use Rattle.whole.proofs.Tests.{Test, pass, fail, lt?, eq?}
+use Rattle.whole.proofs.Tests.{Test, pass, fail, lt?, eq?, passed}
+use Rattle.whole.proofs.Order.{below-suc}
 use Rattle.rules.specs.Search.{Found, none, found, orAt, first, last, orSmaller, smallest, total, each}
 use Rattle.rules.specs.Stages.{isOther}
+use Rattle.rules.specs.Formulas.{isNone}
 
 -- index c is one of lo to hi
 pub record In (lo hi c : ℕ) : Type 0 where
@@ -17,16 +19,15 @@ pub record In (lo hi c : ℕ) : Type 0 where
 
 -- what holds of lo to c, and of c, holds of lo to c + 1
 pub in-suc : {P : ℕ → Type 0} (lo c : ℕ) → ((d : ℕ) → In lo c d → P d) → P c → (d : ℕ) → In lo (suc c) d → P d
-in-suc {P} lo c h k d i = go (ℕ-discrete d c)
-  where
-    go : Dec (d ≡ c) → P d
-    go (yes e) = rw e k
-    go (no n) = h d (omega arith)
+in-suc {P} lo c h k d i = below-suc P c k d (λ l. h d (omega arith)) (i .high)
 
 -- ---- the first index where a test holds
+abbrev pub Nowhere : (test : ℕ → Bool) (lo hi : ℕ) → Type 0
+Nowhere test lo hi = (c : ℕ) → In lo hi c → test c ≡ false
+
 pub data FirstIs (test : ℕ → Bool) (lo hi : ℕ) : Found → Type 0 where
-  no-first : ((c : ℕ) → In lo hi c → test c ≡ false) → FirstIs test lo hi none
-  is-first : (j : ℕ) → In lo hi j → test j ≡ true → ((c : ℕ) → In lo j c → test c ≡ false) → FirstIs test lo hi (found j)
+  no-first : Nowhere test lo hi → FirstIs test lo hi none
+  is-first : (j : ℕ) → In lo hi j → test j ≡ true → Nowhere test lo j → FirstIs test lo hi (found j)
 
 module _ (test : ℕ → Bool) (lo : ℕ) where
   pub first-is : (hi : ℕ) → FirstIs test lo hi (first test lo hi)
@@ -34,7 +35,7 @@ module _ (test : ℕ → Bool) (lo : ℕ) where
   first-is zero = no-first (λ c i. absurd (omega arith))
   first-is (suc c) = go (lt? c lo) (first-is c)
     where
-      at : (b : Bool) → test c ≡ b → lo ≤ c → ((d : ℕ) → In lo c d → test d ≡ false) → FirstIs test lo (suc c) (elim b [ true ↦ found c | false ↦ none ])
+      at : (b : Bool) → test c ≡ b → lo ≤ c → Nowhere test lo c → FirstIs test lo (suc c) (elim b [ true ↦ found c | false ↦ none ])
       at true e h z = is-first c (omega arith) e z
       at false e h z = no-first (in-suc lo c z e)
 
@@ -42,6 +43,14 @@ module _ (test : ℕ → Bool) (lo : ℕ) where
       go (pass h) y = no-first (λ d i. absurd (omega arith))
       go (fail h) (no-first z) = at (test c) refl h z
       go (fail h) (is-first j i e z) = is-first j (omega arith) e z
+
+-- there is none exactly where the test holds nowhere
+pub none? : (test : ℕ → Bool) (lo hi : ℕ) → Test (Nowhere test lo hi) ((c : ℕ) × In lo hi c × (test c ≡ true)) (isNone (first test lo hi))
+none? test lo hi = go (first-is test lo hi)
+  where
+    go : {x : Found} → FirstIs test lo hi x → Test (Nowhere test lo hi) ((c : ℕ) × In lo hi c × (test c ≡ true)) (isNone x)
+    go (no-first z) = pass z
+    go (is-first j i e z) = fail (j, i, e)
 
 -- the test of (A)'s second search
 pub is-other : (f : ℕ → ℕ) (p c : ℕ) → Test ((c ≢ p) × (f c ≢ 0)) (c ≢ p → f c ≡ 0) (isOther f p c)
@@ -63,16 +72,9 @@ module _ (test : ℕ → Bool) where
   last-is zero = no-last (λ k h. absurd (omega arith))
   last-is (suc c) = go (test c) refl (last-is c)
     where
-      at : (k : ℕ) → test c ≡ false → (k < c → test k ≡ false) → k < suc c → test k ≡ false
-      at k e z h = pick (ℕ-discrete k c)
-        where
-          pick : Dec (k ≡ c) → test k ≡ false
-          pick (yes d) = ap test d ∙ e
-          pick (no d) = z (omega arith)
-
       more : {x : Found} → test c ≡ false → LastIs test c x → LastIs test (suc c) x
-      more e (no-last z) = no-last (λ k h. at k e (z k) h)
-      more e (is-last r h t z) = is-last r (omega arith) t (λ k l g. at k e (z k l) g)
+      more e (no-last z) = no-last (λ k h. below-suc (λ k. test k ≡ false) c e k (z k) h)
+      more e (is-last r h t z) = is-last r (omega arith) t (λ k l g. below-suc (λ k. test k ≡ false) c e k (z k l) g)
 
       go : {x : Found} (b : Bool) → test c ≡ b → LastIs test c x → LastIs test (suc c) (elim b [ true ↦ found c | false ↦ x ])
       go true e y = is-last c (omega arith) e (λ k h g. absurd (omega arith))
@@ -154,6 +156,43 @@ smallest-none f lo hi z = go (smallest-is f lo hi)
     go (all-zero _) = refl
     go (is-smallest p s) = absurd (s .filled (z p (s .within)))
 
+-- ---- from the result, as an equation: what is found is there, and what is not found is nowhere
+not-none : {j : ℕ} → none ≡ found j → ⊥
+not-none e = let o : _≡_ {A = ℕ} 0 1 = cc in omega arith
+
+module _ (test : ℕ → Bool) (lo hi : ℕ) where
+  pub first-there : (j : ℕ) → first test lo hi ≡ found j → In lo hi j × (test j ≡ true)
+  first-there j e = go (first-is test lo hi) e
+    where
+      go : {x : Found} → FirstIs test lo hi x → x ≡ found j → In lo hi j × (test j ≡ true)
+      go (no-first z) y = absurd (not-none y)
+      go (is-first i w t z) y = let k : i ≡ j = cc in rw (← k) (w, t)
+
+  pub first-nowhere : first test lo hi ≡ none → Nowhere test lo hi
+  first-nowhere e = passed (none? test lo hi) (ap isNone e)
+
+pub last-there : (test : ℕ → Bool) (hi r : ℕ) → last test hi ≡ found r → test r ≡ true
+last-there test hi r e = go (last-is test hi) e
+  where
+    go : {x : Found} → LastIs test hi x → x ≡ found r → test r ≡ true
+    go (no-last z) y = absurd (not-none y)
+    go (is-last i h t z) y = let k : i ≡ r = cc in rw (← k) t
+
+module _ (f : ℕ → ℕ) (lo hi : ℕ) where
+  pub smallest-there : (p : ℕ) → smallest f lo hi ≡ found p → Smallest f lo hi p
+  smallest-there p e = go (smallest-is f lo hi) e
+    where
+      go : {x : Found} → SmallestIs f lo hi x → x ≡ found p → Smallest f lo hi p
+      go (all-zero z) y = absurd (not-none y)
+      go (is-smallest i s) y = let k : i ≡ p = cc in rw (← k) s
+
+  pub smallest-nowhere : smallest f lo hi ≡ none → (c : ℕ) → In lo hi c → f c ≡ 0
+  smallest-nowhere e c i = go (smallest-is f lo hi) e
+    where
+      go : {x : Found} → SmallestIs f lo hi x → x ≡ none → f c ≡ 0
+      go (all-zero z) y = z c i
+      go (is-smallest p s) y = absurd (not-none (sym y))
+
 -- ---- a search reads only the indices that it goes through
 pub first-cong : (f g : ℕ → Bool) (lo hi : ℕ) → ((c : ℕ) → In lo hi c → f c ≡ g c) → first f lo hi ≡ first g lo hi
 unfolding first
@@ -212,16 +251,6 @@ module _ (lo : ℕ) where
       go (pass k) e r = absurd (omega arith)
       go (fail k) (yes e) r = omega (arith, total-cong f g c (λ d x. h d (omega arith) (omega arith)), subst (λ (z : ℕ). g z < f z) e l)
       go (fail k) (no e) r = omega (arith, r (omega arith), h c (omega arith) e)
-
-  pub total-zero : (f : ℕ → ℕ) (hi : ℕ) → total f lo hi ≡ 0 → (c : ℕ) → In lo hi c → f c ≡ 0
-  unfolding total
-  total-zero f zero e c i = absurd (omega arith)
-  total-zero f (suc a) e c i = go (lt? a lo) e (λ h. total-zero f a h)
-    where
-      go : {b : Bool} → Test (a < lo) (lo ≤ a) b → _≡_ {A = ℕ} (elim b [ true ↦ 0 | false ↦ total f lo a + f a ]) 0
-          → (total f lo a ≡ 0 → (c : ℕ) → In lo a c → f c ≡ 0) → f c ≡ 0
-      go (pass k) e r = absurd (omega arith)
-      go (fail k) e r = in-suc {P = λ d. f d ≡ 0} lo a (r (omega arith)) (omega arith) c i
 
 -- ---- a step at each index
 -- what holds before the first index of lo to hi, and is handed on at each, holds after the last

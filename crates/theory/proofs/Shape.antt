@@ -1,5 +1,5 @@
 -- The shape of the matrix C of a problem: s modulus columns, each -p in its row and 0 elsewhere, then the n quantity columns.
-use mathlib.Core.Path.{_≡_, _∙_, ap}
+use mathlib.Core.Path.{_≡_, refl, _∙_, ap}
 use mathlib.Core.Logic.{_≢_}
 use mathlib.Core.Bool.{true, false}
 use mathlib.Core.List.{List, []}
@@ -10,10 +10,9 @@ use lib.Dec.{eqb}
 use lib.ListN.{length, getD, length-append, length-map, List·getD-append}
 use lib.IntN.{ℤ, pos, negℤ}
 use Rattle.whole.specs.Lists.{nth, tab}
-use Rattle.whole.proofs.Tests.{eqb-true, eqb-false}
-use Rattle.whole.proofs.Lists.{length-tab, nth-tab, nth-rest}
+use borrow.Author.Tests.{eq-eqb, ne-eqb}
+use Rattle.whole.proofs.Lists.{length-tab, nth-tab, nth-rest, getD-map}
 use Rattle.rules.specs.Problem.{Problem, entry, modulus, modulusRows, s, N, modulusColumn, modulusColumns, quantityColumns, columns, C}
-use Rattle.theory.proofs.MoreLists.{getD-map}
 use Rattle.theory.proofs.ModulusRows.{modulusRow}
 
 module _ (P : Problem) where
@@ -64,10 +63,10 @@ module _ (P : Problem) where
       ∙ nth-tab (P .m) (λ r. elim (eqb (modulusRow P c) r) [ true ↦ negℤ (modulus P (modulusRow P c)) | false ↦ pos 0 ]) i (pos 0) a
 
   pub modulus-column-at : (c : ℕ) → c < s P → modulusRow P c < P .m → C P (modulusRow P c) c ≡ negℤ (modulus P (modulusRow P c))
-  modulus-column-at c h a = modulus-entry c (modulusRow P c) h a ∙ rw (eqb-true (modulusRow P c))
+  modulus-column-at c h a = modulus-entry c (modulusRow P c) h a ∙ rw (eq-eqb (modulusRow P c) (modulusRow P c) refl)
 
   pub modulus-column-else : (c i : ℕ) → c < s P → i < P .m → i ≢ modulusRow P c → C P i c ≡ pos 0
-  modulus-column-else c i h a d = modulus-entry c i h a ∙ rw (eqb-false (modulusRow P c) i (omega arith))
+  modulus-column-else c i h a d = modulus-entry c i h a ∙ rw (ne-eqb (modulusRow P c) i (omega arith))
 
   pub quantity-column-at : (i j : ℕ) → i < P .m → j < P .n → C P i (s P + j) ≡ entry P i j
   unfolding C quantityColumn

@@ -6,57 +6,50 @@ use native.Mathlib.Decide.{decLt}
 use lib.ListN.{length}
 use lib.IntN.{ℤ, natAbs, _+ℤ_, _*ℤ_}
 use Rattle.whole.specs.Sum.{sum}
-use Rattle.whole.proofs.Order.{abs-add}
+use Rattle.whole.proofs.Order.{abs-add, product-size}
 use Rattle.whole.proofs.Division.{quot-le}
 use Rattle.whole.proofs.Lists.{length-tab}
+use Rattle.whole.proofs.Sum.{products-size}
 use Rattle.rules.specs.Limits.{M, mostTerms, roomH, roomV, roomW, roomWeights, roomExponents}
-use Rattle.rules.specs.Problem.{Problem, entry, modulus, s, N}
+use Rattle.rules.specs.Problem.{Problem, entry, modulus, WellFormed, s, N}
 use Rattle.rules.specs.Stages.{Run, run, H, U, W}
 use Rattle.rules.specs.Formulas.{rowTimes, weight, kOf, kAnd, d, translated, Formula, terms, term}
 use Rattle.rules.specs.Calls.{contentsH, contentsV, contentsW, weights, translatedExponents}
-use Rattle.theory.proofs.MoreNumbers.{product-size, products-size}
-use Rattle.theory.proofs.MoreLists.{grid-size}
-use Rattle.theory.proofs.ModulusRows.{modulusRow, modulus-row-within, s-le-m}
+use Rattle.theory.proofs.ModulusRows.{modulusRow, s-le-m}
 use Rattle.theory.proofs.Answers.{RightRun}
 use Rattle.theory.proofs.Groups.{d-le-n}
 use Rattle.theory.proofs.Weights.{kAnd-first, kAnd-rest}
+use Rattle.theory.proofs.Grid.{grid-size}
 
 -- one entry of an add step, for any values of 32 bits
 pub add-size : (x q y : ℤ) → natAbs x ≤ suc M → natAbs q ≤ suc M → natAbs y ≤ suc M → natAbs (x +ℤ q *ℤ y) < 2 ^ 63
 add-size x q y a b c = omega (arith, abs-add x (q *ℤ y), product-size q y b c)
 
--- what the checks leave of a problem
-pub record Limited (P : Problem) : Type 0 where
-  pub rows : P .m ≤ 8
-  pub quantities : P .n ≤ 16
-  pub oneModulusEach : length (P .moduli) ≡ P .m
-  pub entries : (i j : ℕ) → i < P .m → j < P .n → natAbs (entry P i j) ≤ 1000
-
 abbrev pub LimitedExponents : Problem → (ℕ → ℤ) → Type 0
 LimitedExponents P v = (j : ℕ) → j < P .n → natAbs (v j) ≤ 10_000
 
-module _ (P : Problem) (L : Limited P) where
+module _ (P : Problem) (G : WellFormed P) where
   pub s-le-8 : s P ≤ 8
-  s-le-8 = omega (arith, s-le-m P (L .oneModulusEach))
+  s-le-8 = omega (arith, s-le-m P (G .moduli), G .m-high)
 
   pub N-le-24 : N P ≤ 24
-  N-le-24 = omega (arith, s-le-8)
+  N-le-24 = omega (arith, s-le-8, G .n-high)
 
   -- ---- the weights
   module _ (v : ℕ → ℤ) (E : LimitedExponents P v) where
-    pub row-begun-size : (i k : ℕ) → i < P .m → k ≤ P .n → natAbs (sum k (λ j. entry P i j *ℤ v j)) ≤ 160_000_000
-    row-begun-size i k a h =
-        omega (arith, L .quantities, products-size (P .n) k 1000 10_000 (λ j. entry P i j) v h (λ j b. L .entries i j a b) E)
+    pub row-begun-size : (i k : ℕ) → k ≤ P .n → natAbs (sum k (λ j. entry P i j *ℤ v j)) ≤ 160_000_000
+    row-begun-size i k h =
+        omega (arith, G .n-high, products-size (P .n) k 1000 10_000 (λ j. entry P i j) v h (λ j b. G .entries (i * P .n + j)) E)
 
-    pub row-size : (i : ℕ) → i < P .m → natAbs (rowTimes P v i) ≤ 160_000_000
+    pub row-size : (i : ℕ) → natAbs (rowTimes P v i) ≤ 160_000_000
     unfolding rowTimes
-    row-size i a = row-begun-size i (P .n) a (omega arith)
+    row-size i = row-begun-size i (P .n) (omega arith)
 
     pub k-size : (c : ℕ) → c < s P → natAbs (kOf P v c) ≤ 160_000_000
     unfolding kOf
     k-size c h =
         let i = modulusRow P c in
-        omega (arith, quot-le (rowTimes P v i) (modulus P i), row-size i (modulus-row-within P (L .oneModulusEach) c h))
+        omega (arith, quot-le (rowTimes P v i) (modulus P i), row-size i)
 
     pub kAnd-size : (c : ℕ) → c < N P → natAbs (kAnd P v c) ≤ 160_000_000
     kAnd-size c h = go (decLt c (s P))
@@ -76,17 +69,10 @@ module _ (P : Problem) (L : Limited P) where
       pub translated-begun-fits : (k : ℕ) → k ≤ N P → natAbs (sum k (λ c. W u (u .rank + g) c *ℤ kAnd P v c)) < 2 ^ 63
       translated-begun-fits k h = omega (arith, translated-begun-size k h)
 
-      pub translated-size : natAbs (translated P u v g) ≤ 24 * (M * 160_000_000)
-      unfolding translated
-      translated-size = translated-begun-size (N P) (omega arith)
-
-      pub translated-fits : natAbs (translated P u v g) < 2 ^ 63
-      translated-fits = omega (arith, translated-size)
-
   -- ---- the outputs
   pub room-for-H : length (contentsH P) ≤ roomH
   unfolding contentsH
-  room-for-H = grid-size (L .rows) N-le-24 (H (run P))
+  room-for-H = grid-size (G .m-high) N-le-24 (H (run P))
 
   pub room-for-V : length (contentsV P) ≤ roomV
   unfolding contentsV
@@ -98,11 +84,11 @@ module _ (P : Problem) (L : Limited P) where
 
   pub room-for-weights : (v : ℕ → ℤ) → length (weights P v) ≤ roomWeights
   unfolding weights
-  room-for-weights v = omega (arith, length-tab (P .m) (weight P v), L .rows)
+  room-for-weights v = omega (arith, length-tab (P .m) (weight P v), G .m-high)
 
   pub room-for-exponents : RightRun P (run P) → (f : Formula) → terms f ≤ mostTerms
       → length (translatedExponents P f) ≤ roomExponents
   unfolding translatedExponents
   room-for-exponents R f h =
-      let groups : d P (run P) ≤ 16 = omega (arith, d-le-n P (L .oneModulusEach) R) in
+      let groups : d P (run P) ≤ 16 = omega (arith, d-le-n P (G .moduli) R, G .n-high) in
       grid-size h groups (λ t g. translated P (run P) (term P f t) g)

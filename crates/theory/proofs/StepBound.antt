@@ -9,12 +9,11 @@ use lib.Dec.{eqb}
 use lib.IntN.{ℤ, pos, negℤ}
 use lib.Signed.{ltZ}
 use Rattle.whole.specs.Division.{floorZ}
-use Rattle.whole.proofs.Tests.{Test, pass, fail, lt?}
+use Rattle.whole.proofs.Tests.{Test, pass, fail, lt?, false-of}
 use Rattle.rules.specs.Limits.{M, isZero}
 use Rattle.rules.specs.Search.{Found, none, found, total, each}
 use Rattle.rules.specs.Steps.{State, Table, onV, get, swapStep, negateStep, addStep}
 use Rattle.rules.specs.Stages.{size, Next, done, adds, next, repeatA, eliminate, reduce, bring, makePositive, settle, Progress, settled, row, rows, pivotRow, reduceFirst, stage3}
-use Rattle.theory.proofs.ExtraTests.{false-of}
 use Rattle.theory.proofs.Search.{total-less, SmallestIs, all-zero, is-smallest, smallest-is}
 use Rattle.theory.proofs.StepLines.{swap-steps, negate-steps, add-steps}
 use Rattle.theory.proofs.Sequence.{begin, follow}

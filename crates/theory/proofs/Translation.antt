@@ -9,15 +9,13 @@ use lib.IntN.{ℤ, pos, negℤ, _+ℤ_, _*ℤ_, +ℤ-idr, *ℤ-zero}
 use lib.Signed.{quotZ, remZ}
 use Rattle.whole.specs.Sum.{sum}
 use Rattle.whole.proofs.Lists.{lists-same}
-use Rattle.whole.proofs.Division.{quot-exact}
+use Rattle.whole.proofs.Division.{quot-exact, multiple-rem}
 use Rattle.whole.proofs.Solver.{_⊕_, _⊗_, ⊝_, con, _≟_, ring₂, ring₃}
 use Rattle.whole.proofs.Sum.{sum-cong, sum-out}
 use Rattle.rules.specs.Problem.{Problem, entry, modulus, s, N, C}
 use Rattle.rules.specs.Stages.{Run, run, U}
 use Rattle.rules.specs.Formulas.{rowTimes, weight, Free, kOf, kAnd, d, translated, group, Formula, terms, term}
 use Rattle.rules.specs.Calls.{translatedExponents}
-use Rattle.theory.proofs.MoreNumbers.{multiple-rem}
-use Rattle.theory.proofs.MoreLists.{table, length-grid, table-grid}
 use Rattle.theory.proofs.KeyLemma.{one-combination}
 use Rattle.theory.proofs.Kernel.{Kills, combination-killed, killed-is}
 use Rattle.theory.proofs.ModulusRows.{modulusRow, modulus-not-zero, by-rows}
@@ -25,6 +23,7 @@ use Rattle.theory.proofs.Product.{quantityPart, times-modulus-row, time
 use Rattle.theory.proofs.Answers.{RightRun}
 use Rattle.theory.proofs.Groups.{groups-hermite}
 use Rattle.theory.proofs.Weights.{weight-without, weight-with, kAnd-first, kAnd-rest}
+use Rattle.theory.proofs.Grid.{table, length-grid, table-grid}
 
 -- ---- a free v is the quantity part of a vector that C kills, and the other way round
 module _ (P : Problem) (v : ℕ → ℤ) where

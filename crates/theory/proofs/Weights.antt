@@ -6,12 +6,12 @@ use Prim.Native.Nat.{ℕ, _+_, _-_, _<_}
 use native.Mathlib.Omega.{arith}
 use lib.IntN.{ℤ, pos}
 use lib.Signed.{remZ}
-use Rattle.whole.proofs.Tests.{Test, pass, fail, lt?, is-true, is-false}
+use Rattle.whole.proofs.Tests.{Test, pass, fail, lt?, is-true, is-false, negated, passed, failed}
 use Rattle.rules.specs.Limits.{isZero}
 use Rattle.rules.specs.Problem.{Problem, modulus, s}
 use Rattle.rules.specs.Formulas.{rowTimes, remainder, weight, Free, isFree, kOf, kAnd}
-use Rattle.theory.proofs.MoreTests.{negated, passed, failed, isZero?}
-use Rattle.theory.proofs.MoreSearch.{Nowhere, Somewhere, none?}
+use Rattle.theory.proofs.Limits.{isZero?}
+use Rattle.theory.proofs.Search.{In, Nowhere, none?}
 
 module _ (P : Problem) (v : ℕ → ℤ) where
   pub weight-without : (i : ℕ) → modulus P i ≡ pos 0 → weight P v i ≡ rowTimes P v i
@@ -33,9 +33,9 @@ module _ (P : Problem) (v : ℕ → ℤ) where
       bad? : (i : ℕ) → Test (weight P v i ≢ pos 0) (weight P v i ≡ pos 0) (not (isZero (weight P v i)))
       bad? i = negated (isZero? (weight P v i))
 
-      go : {b : Bool} → Test (Nowhere bad 0 (P .m)) (Somewhere bad 0 (P .m)) b → Test (Free P v) (¬ Free P v) b
-      go (pass n) = pass (record { weights = λ i a. failed (bad? i) (n i (omega arith) a) })
-      go (fail (i, l, a, e)) = fail (λ f. passed (bad? i) e (f .weights i a))
+      go : {b : Bool} → Test (Nowhere bad 0 (P .m)) ((i : ℕ) × In 0 (P .m) i × (bad i ≡ true)) b → Test (Free P v) (¬ Free P v) b
+      go (pass n) = pass (record { weights = λ i a. failed (bad? i) (n i (omega arith)) })
+      go (fail (i, a, e)) = fail (λ f. passed (bad? i) e (f .weights i (a .high)))
 
   pub isFree-yes : Free P v → isFree P v ≡ true
   isFree-yes f = is-true isFree? (λ d. d f)

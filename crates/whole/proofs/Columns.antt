@@ -24,10 +24,6 @@ pub record Kept (n : ℕ) (C T U W : Matrix) : Type 0 where
   pub right : Inverse n U W
   pub left : Inverse n W U
 
--- before the first step
-pub start-kept : (n : ℕ) (C : Matrix) → Kept n C C δ δ
-start-kept n C = record { made = λ r c h. sym (mul-one n C r c h); right = λ r c h k. one-mul n δ r c h; left = λ r c h k. one-mul n δ r c h }
-
 pub kept-same : {n : ℕ} {C T T′ U U′ W W′ : Matrix} → ((r c : ℕ) → c < n → T′ r c ≡ T r c) → ((r c : ℕ) → c < n → U′ r c ≡ U r c)
     → ((r c : ℕ) → r < n → W′ r c ≡ W r c) → Kept n C T U W → Kept n C T′ U′ W′
 kept-same {n} {C} {T} {T′} {U} {U′} {W} {W′} t u w k = record {

@@ -1,16 +1,14 @@
 -- Division of whole numbers: cut toward zero (quotZ and remZ of lib.Signed, the language's own) and rounded down (floorZ of specs/Division).
 use mathlib.Core.Path.{_≡_, refl, sym, _∙_, ap}
-use mathlib.Core.Bool.{Bool, cond}
 use Prim.Native.Nat.{ℕ, zero, suc, _*_, _/_, _%_, _≤_, _<_}
 use native.Mathlib.Omega.{arith}
-use native.Mathlib.Nat.{div-add-mod', mod-lt, mod-le, div-le-self}
+use native.Mathlib.Nat.{div-add-mod', mod-lt, mod-le, div-le-self, mul-mod-left}
 use lib.IntN.{ℤ, pos, negsuc, negℤ, natAbs, _+ℤ_, _*ℤ_, _-ℤ_, +ℤ-idr, negℤ-negℤ}
-use lib.Signed.{_≤ℤ_, _<ℤ_, quotZ, remZ, ltZ}
+use lib.Signed.{_≤ℤ_, _<ℤ_, quotZ, remZ}
 use Rattle.whole.specs.Division.{floorZ}
-use Rattle.whole.proofs.Tests.{Test, pass, fail, ltZ?}
-use Rattle.whole.proofs.Order.{zarith, +is, -is, P-mul, N-mul, abs-is, abs-neg, abs-mul, parts, natAbs-zero}
-use Rattle.whole.proofs.Ring.{negℤ-*ℤ, sub-zero→eq}
-use Rattle.whole.proofs.Solver.{con, _⊕_, _⊗_, _⊖_, ⊝_, _≟_, ring₃, ring₄}
+use Rattle.whole.proofs.Order.{zarith, -is, P-mul, N-mul, abs-neg, abs-mul, natAbs-zero}
+use Rattle.whole.proofs.Ring.{negℤ-*ℤ}
+use Rattle.whole.proofs.Solver.{_⊕_, _⊗_, ⊝_, _≟_, ring₃}
 
 -- ---- cut toward zero
 quot-rem-pos : (a : ℕ) (b : ℤ) → pos a ≡ quotZ (pos a) b *ℤ b +ℤ remZ (pos a) b
@@ -49,6 +47,12 @@ rem-le a b = rw (abs-rem a b) (mod-le (natAbs a) (natAbs b))
 pub rem-lt : (a b : ℤ) → 0 < natAbs b → natAbs (remZ a b) < natAbs b
 rem-lt a b h = rw (abs-rem a b) (mod-lt (natAbs a) h)
 
+-- a multiple of b leaves none by b
+pub multiple-rem : (q b : ℤ) → remZ (q *ℤ b) b ≡ pos 0
+multiple-rem q b =
+    natAbs-zero (remZ (q *ℤ b) b)
+    (abs-rem (q *ℤ b) b ∙ ap (λ (z : ℕ). z % natAbs b) (abs-mul q b) ∙ mul-mod-left (natAbs q) (natAbs b))
+
 -- with the quotient as a variable q, so that it can be split into 0, which b ≤ a excludes, and the rest
 mod-half : (a b q : ℕ) → q ≡ a / b → 0 < b → b ≤ a → 2 * (a % b) < a
 mod-half a b zero e h g = omega (arith, mod-lt a h, div-add-mod' a b, ap (λ (z : ℕ). z * b) e)
@@ -57,10 +61,6 @@ mod-half a b (suc q) e h g = omega (arith, mod-lt a h, div-add-mod' a b, ap (λ 
 -- what bounds the number of steps of a repeated division
 pub rem-half : (a b : ℤ) → 0 < natAbs b → natAbs b ≤ natAbs a → 2 * natAbs (remZ a b) < natAbs a
 rem-half a b h g = rw (abs-rem a b) (mod-half (natAbs a) (natAbs b) (natAbs a / natAbs b) refl h g)
-
-pub rem-sign : (a b : ℤ) → pos 0 ≤ℤ a → pos 0 ≤ℤ remZ a b
-rem-sign (pos a) b h = omega zarith
-rem-sign (negsuc a) b h = absurd (omega zarith)
 
 -- ---- rounded down
 -- q is a divided by b, rounded down; low and high together say that b is above 0
@@ -84,46 +84,9 @@ floor-is (negsuc a) (pos b) h =
     record { low = omega zarith; high = omega zarith }
 floor-is a (negsuc b) h = absurd (h .lt)
 
-factor-zero : (k b : ℕ) → k * b < b → k ≡ 0
-factor-zero zero b h = refl
-factor-zero (suc k) b h = absurd (omega arith)
-
-pub floored-unique : {a b q q′ : ℤ} → Floored a b q → Floored a b q′ → q ≡ q′
-floored-unique {a} {b} {q} {q′} f g =
-    let x = a -ℤ q *ℤ b in
-    let y = a -ℤ q′ *ℤ b in
-    let e : natAbs (q -ℤ q′) * natAbs b ≡ natAbs (y -ℤ x) =
-    sym (abs-mul (q -ℤ q′) b) ∙ ap natAbs (ring₄ a b q q′ (λ a b q q′. (q ⊖ q′) ⊗ b ≟ (a ⊖ q′ ⊗ b) ⊖ (a ⊖ q ⊗ b)) tt) in
-    let small : natAbs (y -ℤ x) < natAbs b = omega (zarith, f .low, f .high, g .low, g .high, -is y x, parts (y -ℤ x), abs-is b) in
-    sub-zero→eq q q′ (natAbs-zero (q -ℤ q′) (factor-zero (natAbs (q -ℤ q′)) (natAbs b) (omega arith)))
-
 pub floor-le : (a b : ℤ) → natAbs (floorZ a b) ≤ natAbs a
 floor-le (pos a) (pos b) = div-le-self a b
 floor-le (negsuc a) (pos b) = omega (arith, div-le-self a b)
 floor-le (pos zero) (negsuc b) = omega arith
 floor-le (pos (suc a)) (negsuc b) = omega (arith, div-le-self a (suc b))
 floor-le (negsuc a) (negsuc b) = div-le-self (suc a) (suc b)
-
--- ---- rounded down, as code has it from the quotient cut toward zero
-module _ (a b : ℤ) (h : pos 0 <ℤ b) where
-  small : natAbs (remZ a b) < natAbs b
-  small = rem-lt a b (omega (zarith, abs-is b))
-
-  pub floor-down : remZ a b <ℤ pos 0 → Floored a b (quotZ a b -ℤ pos 1)
-  floor-down n =
-      let e : a -ℤ (quotZ a b -ℤ pos 1) *ℤ b ≡ remZ a b +ℤ b =
-      ap (λ z. z -ℤ (quotZ a b -ℤ pos 1) *ℤ b) (quot-rem a b) ∙ ring₃ (quotZ a b) b (remZ a b) (λ q b r. (q ⊗ b ⊕ r) ⊖ (q ⊖ con (pos 1)) ⊗ b ≟ r ⊕ b) tt in
-      record { low = rw e (omega (zarith, +is (remZ a b) b, parts (remZ a b), parts b, small)); high = rw e (omega (zarith, +is (remZ a b) b)) }
-
-  pub floor-same : pos 0 ≤ℤ remZ a b → Floored a b (quotZ a b)
-  floor-same n =
-      let e : a -ℤ quotZ a b *ℤ b ≡ remZ a b =
-      ap (λ z. z -ℤ quotZ a b *ℤ b) (quot-rem a b) ∙ ring₃ (quotZ a b) b (remZ a b) (λ q b r. (q ⊗ b ⊕ r) ⊖ q ⊗ b ≟ r) tt in
-      record { low = rw e n; high = rw e (omega (zarith, parts (remZ a b), parts b, small)) }
-
-  pub floor-of-quot : floorZ a b ≡ cond (ltZ (remZ a b) (pos 0)) (quotZ a b -ℤ pos 1) (quotZ a b)
-  floor-of-quot = go (ltZ? (remZ a b) (pos 0))
-    where
-      go : {t : Bool} → Test (remZ a b <ℤ pos 0) (pos 0 ≤ℤ remZ a b) t → floorZ a b ≡ cond t (quotZ a b -ℤ pos 1) (quotZ a b)
-      go (pass n) = floored-unique (floor-is a b h) (floor-down n)
-      go (fail n) = floored-unique (floor-is a b h) (floor-same n)

@@ -1,12 +1,12 @@
 -- The exchange of two indices i and j, by which two columns (or rows) of a matrix change places.
-use mathlib.Core.Path.{_≡_, sym, _∙_, ap}
+use mathlib.Core.Path.{_≡_, refl, sym, _∙_, ap}
 use mathlib.Core.Logic.{_≢_}
 use mathlib.Core.Bool.{cond}
 use Prim.Native.Nat.{ℕ, _<_}
 use native.Mathlib.Decide.{ℕ-discrete}
 use lib.Dec.{eqb}
 use Rattle.whole.specs.Matrix.{δ}
-use Rattle.whole.proofs.Tests.{eqb-true, eqb-false}
+use borrow.Author.Tests.{eq-eqb, ne-eqb}
 use Rattle.whole.proofs.Sum.{δ-same, δ-diff}
 
 -- where c goes
@@ -29,19 +29,19 @@ which? i j c = go (ℕ-discrete i c) (ℕ-discrete j c)
 
 pub tr-first : (i j : ℕ) → tr i j i ≡ j
 unfolding tr
-tr-first i j = rw (eqb-true i)
+tr-first i j = rw (eq-eqb i i refl)
 
 pub tr-second : (i j : ℕ) → tr i j j ≡ i
 unfolding tr
 tr-second i j = go (ℕ-discrete i j)
   where
     go : Dec (i ≡ j) → cond (eqb i j) j (cond (eqb j j) i j) ≡ i
-    go (yes e) = rw (e, eqb-true j)
-    go (no d) = rw (eqb-false i j d, eqb-true j)
+    go (yes e) = rw (e, eq-eqb j j refl)
+    go (no d) = rw (ne-eqb i j d, eq-eqb j j refl)
 
 pub tr-neither : (i j c : ℕ) → i ≢ c → j ≢ c → tr i j c ≡ c
 unfolding tr
-tr-neither i j c d e = rw (eqb-false i c d, eqb-false j c e)
+tr-neither i j c d e = rw (ne-eqb i c d, ne-eqb j c e)
 
 pub tr-tr : (i j c : ℕ) → tr i j (tr i j c) ≡ c
 tr-tr i j c = go (which? i j c)

@@ -3,8 +3,8 @@
 --     lib.ListN   List·getD-append (the first part of ++), List·getD-eq-default (past the end), List·getD-map (so nth of `map negℤ xs`: negℤ (pos 0) is pos 0)
 --     lib.Seq     getD-append-add (the second part of ++), getD-set-same and getD-set-other, ext-getD (two lists equal by their entries)
 --     lib.Arith   digits-lt (r * w + c is below n * w), digits-div and digits-mod (r and c of r * w + c)
-use mathlib.Core.Path.{_≡_, refl, sym, _∙_, ap}
-use mathlib.Core.List.{List, _++_}
+use mathlib.Core.Path.{_≡_, refl, sym, _∙_, ap, ap₂}
+use mathlib.Core.List.{List, [], _∷_, _++_, map}
 use Prim.Native.Nat.{ℕ, zero, suc, _+_, _*_, _-_, _/_, _%_, _≤_, _<_}
 use native.Mathlib.Omega.{arith}
 use native.Mathlib.Nat.{div-add-mod', mod-lt, div-lt-iff-lt-mul}
@@ -21,6 +21,17 @@ pub nth-tab {ℓ} : {A : Type ℓ} (n : ℕ) (f : ℕ → A) (i : ℕ) (d : A) �
 nth-tab zero f i d h = absurd (omega arith)
 nth-tab (suc n) f zero d h = refl
 nth-tab (suc n) f (suc i) d h = nth-tab n (λ i. f (suc i)) i d (omega arith)
+
+pub tab-cong {ℓ} : {A : Type ℓ} (n : ℕ) (f g : ℕ → A) → ((i : ℕ) → i < n → f i ≡ g i) → tab n f ≡ tab n g
+tab-cong zero f g h = refl
+tab-cong (suc n) f g h = ap₂ _∷_ (h 0 (omega arith)) (tab-cong n (λ i. f (suc i)) (λ i. g (suc i)) (λ i l. h (suc i) (omega arith)))
+
+-- List·getD-map of lib.ListN, for an index in the list and any two defaults
+pub getD-map {ℓ κ} : {A : Type ℓ} {B : Type κ} (f : A → B) (xs : List A) (i : ℕ) (a : A) (b : B) → i < length xs
+    → getD (map f xs) i b ≡ f (getD xs i a)
+getD-map f [] i a b h = absurd (omega arith)
+getD-map f (x ∷ xs) zero a b h = refl
+getD-map f (x ∷ xs) (suc i) a b h = getD-map f xs i a b (omega arith)
 
 -- the second part of ++, by the index in the whole
 pub nth-rest {ℓ} : {A : Type ℓ} (xs ys : List A) (i : ℕ) (d : A) → length xs ≤ i → getD (xs ++ ys) i d ≡ getD ys (i - length xs) d

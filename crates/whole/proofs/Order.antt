@@ -1,10 +1,13 @@
 -- Order, equality and magnitude of whole numbers by `omega`, which reads ℕ only: z is P z - N z, with P z and N z in ℕ.
 -- `omega zarith` reads ≤ℤ, <ℤ and ≡ of ℤ, in hypotheses and in the goal, as statements on P and N. An operation is an unknown to it until the operation's law
 -- is listed: `omega (zarith, +is x y)`. It multiplies out terms but no facts: the product of two facts is listed too (mul-le-mul of native.Mathlib.Nat).
-use mathlib.Core.Path.{_≡_, refl, _∙_, ap}
+use mathlib.Core.Path.{_≡_, refl, sym, _∙_, ap, subst}
+use mathlib.Core.Logic.{_≢_}
 use mathlib.Core.Bool.{Bool, cond}
 use Prim.Native.Nat.{ℕ, zero, suc, _+_, _*_, _-_, _≤_, _<_, _^_, min}
 use native.Mathlib.Omega.{arith}
+use native.Mathlib.Decide.{ℕ-discrete}
+use native.Mathlib.Nat.{mul-le-mul, le-mul-of-pos-right, suc-mul}
 use lib.Dec.{leb→le, le→leb, ltb→lt, lt→ltb}
 use lib.IntN.{ℤ, pos, negsuc, negℤ, natAbs, subℕ, _+ℤ_, _*ℤ_, _-ℤ_}
 use lib.Signed.{_≤ℤ_, _<ℤ_, mag}
@@ -123,9 +126,36 @@ abs-sub a b = omega (arith, abs-add a (negℤ b), abs-neg b)
 pub abs-mul : (a b : ℤ) → natAbs (a *ℤ b) ≡ natAbs a * natAbs b
 abs-mul a b = simp (abs-is, P-mul, N-mul) (omega arith)
 
+pub non-zero-size : (z : ℤ) → z ≢ pos 0 → 0 < natAbs z
+non-zero-size z d = go (ℕ-discrete (natAbs z) 0)
+  where
+    go : Dec (natAbs z ≡ 0) → 0 < natAbs z
+    go (yes e) = absurd (d (natAbs-zero z e))
+    go (no n) = omega arith
+
+-- a whole multiple, but for 0, is no smaller
+pub multiple-size : (a b : ℤ) → b ≢ pos 0 → natAbs a ≤ natAbs (a *ℤ b)
+multiple-size a b d = rw (abs-mul a b) (le-mul-of-pos-right (natAbs a) (non-zero-size b d))
+
+pub product-size : (x y : ℤ) {a b : ℕ} → natAbs x ≤ a → natAbs y ≤ b → natAbs (x *ℤ y) ≤ a * b
+product-size x y h g = rw (abs-mul x y) (mul-le-mul h g)
+
 -- ---- what a signed number of the language can hold
 pub fits : (w : Width) (z : ℤ) → natAbs z < 2 ^ hbits w → SFits w z
 fits w z h = record { sfits = omega (arith, parts z) }
 
 pub fits-abs : (w : Width) (z : ℤ) → SFits w z → natAbs z ≤ 2 ^ hbits w
 fits-abs w z h = omega (arith, parts z, h .sfits)
+
+-- ---- indices
+-- row i of at most a rows, each of at most b entries
+pub row-within : (i n a b : ℕ) → i < a → n ≤ b → i * n + n ≤ a * b
+row-within i n a b h l = omega (arith, suc-mul i n, mul-le-mul {n₁ = suc i} {m₁ = n} h l)
+
+-- what holds at c and at every index below c holds at every index below c + 1
+pub below-suc {ℓ} : (Q : ℕ → Type ℓ) (c : ℕ) → Q c → (i : ℕ) → (i < c → Q i) → i < suc c → Q i
+below-suc Q c q i f h = go (ℕ-discrete i c)
+  where
+    go : Dec (i ≡ c) → Q i
+    go (yes e) = subst Q (sym e) q
+    go (no d) = f (omega arith)

@@ -2,7 +2,7 @@
 -- An identity of any length is better left to `Solver`, which stands on these; a single step of rewriting names one of them.
 -- Each is shown on the parts P and N of `Order`, which are in ℕ, where omega multiplies out.
 use mathlib.Core.Path.{_≡_, refl, sym, _∙_, ap}
-use mathlib.Core.Logic.{_≢_, _⊎_, inl, inr}
+use mathlib.Core.Logic.{_⊎_, inl, inr}
 use Prim.Native.Nat.{ℕ, zero, suc, _*_}
 use native.Mathlib.Omega.{arith}
 use lib.IntN.{ℤ, pos, negℤ, natAbs, _+ℤ_, _*ℤ_, _-ℤ_, *ℤ-comm}
@@ -34,9 +34,6 @@ pub *ℤ-1 : (a : ℤ) → a *ℤ pos 1 ≡ a
 pub negℤ-*ℤ : (a b : ℤ) → negℤ a *ℤ b ≡ negℤ (a *ℤ b)
 negℤ-*ℤ a b = →≡ℤ (negℤ a *ℤ b) (negℤ (a *ℤ b)) (simp (P-mul, N-mul, P-neg, N-neg) (omega arith))
 
-pub *ℤ-negℤ : (a b : ℤ) → a *ℤ negℤ b ≡ negℤ (a *ℤ b)
-*ℤ-negℤ a b = *ℤ-comm a (negℤ b) ∙ negℤ-*ℤ b a ∙ ap negℤ (*ℤ-comm b a)
-
 -- ---- the product of a sum
 pub *ℤ-distribr : (a b c : ℤ) → (a +ℤ b) *ℤ c ≡ a *ℤ c +ℤ b *ℤ c
 *ℤ-distribr a b c = omega (
@@ -56,8 +53,6 @@ pub *ℤ-distribl : (a b c : ℤ) → a *ℤ (b +ℤ c) ≡ a *ℤ b +ℤ a *ℤ
 *ℤ-distribl a b c = rw (*ℤ-comm a (b +ℤ c), *ℤ-distribr b c a, *ℤ-comm b a, *ℤ-comm c a)
 
 -- ---- cancellation
-pub +ℤ-cancelr : (a b c : ℤ) → a +ℤ c ≡ b +ℤ c → a ≡ b
-+ℤ-cancelr a b c h = omega (zarith, +is a c, +is b c)
 
 nat-no-zero-div : (a b : ℕ) → a * b ≡ 0 → (a ≡ 0) ⊎ (b ≡ 0)
 nat-no-zero-div zero b h = inl refl
@@ -70,10 +65,3 @@ no-zero-div a b h = go (nat-no-zero-div (natAbs a) (natAbs b) (sym (abs-mul a b)
     go : (natAbs a ≡ 0) ⊎ (natAbs b ≡ 0) → (a ≡ pos 0) ⊎ (b ≡ pos 0)
     go (inl e) = inl (natAbs-zero a e)
     go (inr e) = inr (natAbs-zero b e)
-
-pub *ℤ-cancelr : (a b c : ℤ) → c ≢ pos 0 → a *ℤ c ≡ b *ℤ c → a ≡ b
-*ℤ-cancelr a b c n h = go (no-zero-div (a -ℤ b) c (rw (*ℤ-distribr a (negℤ b) c, negℤ-*ℤ b c) (eq→sub-zero (a *ℤ c) (b *ℤ c) h)))
-  where
-    go : (a -ℤ b ≡ pos 0) ⊎ (c ≡ pos 0) → a ≡ b
-    go (inl e) = sub-zero→eq a b e
-    go (inr e) = absurd (n e)

@@ -44,7 +44,3 @@ ring₄ a b c d f = solve (a ∷ b ∷ c ∷ d ∷ []) (f (var 0) (var 1) (var 2
 pub ring₅ : (a b c d e : ℤ) (f : E → E → E → E → E → Identity) → Valid (f (var 0) (var 1) (var 2) (var 3) (var 4))
     → Holds (a ∷ b ∷ c ∷ d ∷ e ∷ []) (f (var 0) (var 1) (var 2) (var 3) (var 4))
 ring₅ a b c d e f = solve (a ∷ b ∷ c ∷ d ∷ e ∷ []) (f (var 0) (var 1) (var 2) (var 3) (var 4))
-
-pub ring₆ : (a b c d e g : ℤ) (f : E → E → E → E → E → E → Identity) → Valid (f (var 0) (var 1) (var 2) (var 3) (var 4) (var 5))
-    → Holds (a ∷ b ∷ c ∷ d ∷ e ∷ g ∷ []) (f (var 0) (var 1) (var 2) (var 3) (var 4) (var 5))
-ring₆ a b c d e g f = solve (a ∷ b ∷ c ∷ d ∷ e ∷ g ∷ []) (f (var 0) (var 1) (var 2) (var 3) (var 4) (var 5))

@@ -5,13 +5,14 @@ use mathlib.Core.Logic.{_≢_}
 use Prim.Native.Nat.{ℕ, zero, suc, _+_, _*_, _-_, _≤_, _<_}
 use native.Mathlib.Omega.{arith}
 use native.Mathlib.Decide.{ℕ-discrete}
-use lib.IntN.{ℤ, pos, negℤ, natAbs, _+ℤ_, _*ℤ_, _-ℤ_, +ℤ-assoc, +ℤ-idl, +ℤ-idr, +ℤ-invr, *ℤ-zero, zero-*ℤ, negℤ-+ℤ}
+use native.Mathlib.Nat.{mul-le-mul}
+use lib.IntN.{ℤ, pos, negℤ, natAbs, _+ℤ_, _*ℤ_, _-ℤ_, +ℤ-assoc, +ℤ-idl, +ℤ-idr, *ℤ-zero, zero-*ℤ, negℤ-+ℤ}
 use Rattle.whole.specs.Sum.{sum}
 use Rattle.whole.specs.Matrix.{bit, δ}
-use Rattle.whole.proofs.Tests.{eqb-true, eqb-false}
-use Rattle.whole.proofs.Order.{abs-add}
+use borrow.Author.Tests.{eq-eqb, ne-eqb}
+use Rattle.whole.proofs.Order.{abs-add, product-size}
 use Rattle.whole.proofs.Ring.{*ℤ-distribl, *ℤ-distribr, one-*ℤ}
-use Rattle.whole.proofs.Solver.{_⊕_, _⊖_, _≟_, ring₂, ring₄}
+use Rattle.whole.proofs.Solver.{_⊕_, _≟_, ring₄}
 
 -- ---- term by term
 pub sum-cong : (n : ℕ) (f g : ℕ → ℤ) → ((i : ℕ) → i < n → f i ≡ g i) → sum n f ≡ sum n g
@@ -60,6 +61,13 @@ unfolding sum
 abs-sum zero B f h = omega arith
 abs-sum (suc n) B f h = omega (arith, abs-add (sum n f) (f n), h n (omega arith), abs-sum n B f (λ i l. h i (omega arith)))
 
+-- a sum of n products, and each of its beginnings
+pub products-size : (n k a b : ℕ) (x y : ℕ → ℤ) → k ≤ n → ((i : ℕ) → i < n → natAbs (x i) ≤ a) → ((i : ℕ) → i < n → natAbs (y i) ≤ b)
+    → natAbs (sum k (λ i. x i *ℤ y i)) ≤ n * (a * b)
+products-size n k a b x y h f g =
+    let l : k * (a * b) ≤ n * (a * b) = mul-le-mul h (omega arith) in
+    omega (arith, abs-sum k (a * b) (λ i. x i *ℤ y i) (λ i c. product-size (x i) (y i) (f i (omega arith)) (g i (omega arith))))
+
 -- ---- one term
 -- all the others are 0
 pub sum-one : (n i : ℕ) (f : ℕ → ℤ) → i < n → ((k : ℕ) → k < n → k ≢ i → f k ≡ pos 0) → sum n f ≡ f i
@@ -71,17 +79,11 @@ sum-one (suc n) i f l h = go (ℕ-discrete i n) (λ l′. sum-one n i f l′ (λ
     go (yes e) r = rw (e, sum-out n f (λ k m. h k (omega arith) (omega arith))) (+ℤ-idl (f n))
     go (no d) r = rw (r (omega arith), h n (omega arith) (omega arith)) (+ℤ-idr (f i))
 
--- all the others are the same
-pub sum-change : (n i : ℕ) (f g : ℕ → ℤ) → i < n → ((k : ℕ) → k < n → k ≢ i → f k ≡ g k) → sum n f ≡ sum n g +ℤ (f i -ℤ g i)
-sum-change n i f g l h =
-    ring₂ (sum n f) (sum n g) (λ a b. a ≟ b ⊕ (a ⊖ b)) tt
-    ∙ ap (λ z. sum n g +ℤ z) (sym (sum-sub n f g) ∙ sum-one n i (λ k. f k -ℤ g k) l (λ k m d. rw (h k m d) (+ℤ-invr (g k))))
-
 pub δ-same : (i : ℕ) → δ i i ≡ pos 1
-δ-same i = ap bit (eqb-true i)
+δ-same i = ap bit (eq-eqb i i refl)
 
 pub δ-diff : (i j : ℕ) → i ≢ j → δ i j ≡ pos 0
-δ-diff i j d = ap bit (eqb-false i j d)
+δ-diff i j d = ap bit (ne-eqb i j d)
 
 pub δ-sym : (i j : ℕ) → δ i j ≡ δ j i
 δ-sym i j = go (ℕ-discrete i j)

@@ -5,7 +5,8 @@ use native.Mathlib.Omega.{arith}
 use borrow.Author.Needs.{needs}
 use Rattle.rules.specs.Problem.{Problem, N}
 use Rattle.scaling.specs.Problem.{problemOf}
-use Rattle.scaling.proofs.MatrixC.{columns-few, area-above, square-above}
+use Rattle.theory.proofs.Sizes.{N-le-24}
+use Rattle.scaling.proofs.MatrixC.{area-above, square-above}
 use Rattle.scaling.proofs.State.{Long}
 use Rattle.scaling.proofs.Building.{rank-few, builds-refused, builds-taken}
 use Rattle.scaling.proofs.build_checked.Statement.{statement}
@@ -34,7 +35,7 @@ module _ (c : tie.Else1) where
   cols-are = ap (λ (x : ℕ). b .args .n + x) (c .before .before .run .ensures .count)
 
   few : cols ≤ 24
-  few = omega (arith, cols-are, columns-few (b .pre .0))
+  few = omega (arith, cols-are, N-le-24 _ (b .pre .0))
 
   area : problem .m * cols ≤ 192
   area = area-above (b .pre .0) cols-are
@@ -46,7 +47,7 @@ module _ (c : tie.Else1) where
   long = record { t = search needs; v = search needs; w = search needs }
 
   rank : c .before .before .run .result .rank ≤ 24
-  rank = omega (arith, columns-few (b .pre .0), rank-few (b .pre .0) (c .before .before .run .ensures) (c .if1 .left))
+  rank = omega (arith, N-le-24 _ (b .pre .0), rank-few (b .pre .0) (c .before .before .run .ensures) (c .if1 .left))
 
 -- from the calls of copy
 abbrev else1 : tie.After-copy-arg3 → tie.Else1

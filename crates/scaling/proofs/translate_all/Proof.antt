@@ -14,7 +14,7 @@ use Rattle.rules.specs.Problem.{Problem}
 use Rattle.rules.specs.Stages.{run}
 use Rattle.rules.specs.Formulas.{Formula, terms, term, translated, d as groupCount}
 use Rattle.rules.specs.Calls.{grid, translatedExponents}
-use Rattle.theory.proofs.MoreLists.{length-grid}
+use Rattle.theory.proofs.Grid.{length-grid}
 use Rattle.scaling.specs.Problem.{problemOf}
 use Rattle.scaling.specs.Answers.{formulaOf}
 use Rattle.scaling.proofs.GridRows.{begun, begun-none, begun-turn, length-begun}

@@ -5,7 +5,7 @@ use native.Mathlib.Omega.{arith}
 use borrow.Author.Needs.{needs}
 use lib.ListN.{length, take, length-set}
 use Rattle.rules.specs.Bytes.{longs}
-use Rattle.bench.proofs.Signs.{back}
+use Rattle.scaling.proofs.Values.{held}
 use Rattle.bench.proofs.Rooms.{readable-torn, readable-long, decoded-wrong, decoded-all, decoded-suc}
 use Rattle.bench.proofs.words.decode.Statement.{statement}
 use Rattle.bench.proofs.words.decode.Tie as tie
@@ -58,7 +58,7 @@ loop-again c =
       omega arith,
       simp length-set (l .inv .1),
       decoded-suc s (l .out) (l .i) _ _ (omega arith) (l .inv .2) (c .before .unsigned .ensures)
-          (back (c .signed .result) (c .signed .ok) ∙ c .signed .ensures),
+          (held (c .signed .result) (c .signed .ok) ∙ c .signed .ensures),
     )
 
 same-length : tie.Need-same-length Inv-loop μ-loop

@@ -10,7 +10,7 @@ use mir.Syntax.{w32}
 use mir.Val.{ofZ}
 use Rattle.rules.specs.Bytes.{bytesOf}
 use Rattle.rules.specs.Calls.{filled}
-use Rattle.bench.proofs.Signs.{back}
+use Rattle.scaling.proofs.Values.{held}
 use Rattle.bench.proofs.Bytes.{filled-suc}
 use Rattle.bench.proofs.words.encode.Statement.{statement}
 use Rattle.bench.proofs.words.encode.Tie as tie
@@ -52,7 +52,7 @@ loop-again c =
     let l = c .before .before .before .before .before .before .before .loop in
     let z : ℤ = getD (a .xs .now) (l .i) (pos 0) in
     let e : c .before .before .before .bits .result ≡ ofZ w32 z
-    = c .before .before .before .bits .ensures ∙ ap (ofZ w32) (back z (c .before .before .before .before .bits-arg .given)) in (
+    = c .before .before .before .bits .ensures ∙ ap (ofZ w32) (held z (c .before .before .before .before .bits-arg .given)) in (
       omega arith,
       c .before .before .put .kept .0 ∙ l .inv .1,
       filled-suc (a .xs .now) (a .out .now) (l .out) (c .before .before .put .last .0) (l .i) (omega arith) (l .inv .2)

@@ -1,7 +1,9 @@
 -- words::signed meets its contract: by the sign. Assumes nothing.
+use Prim.Native.Nat.{_-_}
 use native.Mathlib.Omega.{arith}
+use mir.Syntax.{w32}
 use borrow.Author.Needs.{needs}
-use Rattle.bench.proofs.Signs.{negative-fits, negative-is}
+use Rattle.whole.proofs.Signs.{upper-half, upper-half-fits}
 use Rattle.bench.proofs.words.signed.Statement.{statement}
 use Rattle.bench.proofs.words.signed.Tie as tie
 
@@ -15,13 +17,13 @@ cast-result-2 : tie.Need-cast-result-2
 cast-result-2 c = search needs
 
 sub-result-2 : tie.Need-sub-result-2
-sub-result-2 c = negative-fits (c .before .args .x) (omega arith)
+sub-result-2 c = upper-half-fits w32 (c .before .args .x) (4294967295 - c .before .args .x) (omega arith) (omega arith) (omega arith)
 
 returns : tie.Need-returns
 returns c = search needs
 
 returns-2 : tie.Need-returns-2
-returns-2 c = negative-is (c .before .args .x) (omega arith)
+returns-2 c = upper-half w32 (c .before .args .x) (4294967295 - c .before .args .x) (omega arith) (omega arith) (omega arith)
 
 pub signed-spec : {M : Type 1} → statement M
 signed-spec =

@@ -6,7 +6,8 @@ use native.Mathlib.Nat.{add-zero}
 use mir.Syntax.{w32}
 use mir.Val.{toZ}
 use Rattle.frames.proofs.Digits.{part-digits}
-use Rattle.frames.proofs.Numbers.{long-is, back}
+use Rattle.scaling.proofs.Values.{held}
+use Rattle.frames.proofs.Numbers.{long-is}
 use native.Mathlib.Omega.{arith}
 use borrow.Author.Needs.{needs}
 use Rattle.frames.proofs.line.long.Statement.{statement}
@@ -39,7 +40,7 @@ signed32-requires c κs = search needs
 returns : tie.Need-returns
 returns c =
     let a = c .before .before .before .before .args in
-    back _ (c .signed32 .ok) ∙ c .signed32 .ensures
+    held _ (c .signed32 .ok) ∙ c .signed32 .ensures
     ∙ ap₂ (λ (x y : ℕ). toZ w32 (65536 * x + y)) (c .before .before .word .ensures .0) (c .before .word2 .ensures .0)
     ∙ long-is (a .text .now) (a .at)
 

@@ -4,7 +4,8 @@ use mathlib.Core.Path.{ap, _∙_}
 use lib.ListN.{drop}
 use mir.Syntax.{w16}
 use mir.Val.{toZ}
-use Rattle.frames.proofs.Numbers.{short-is, back}
+use Rattle.scaling.proofs.Values.{held}
+use Rattle.frames.proofs.Numbers.{short-is}
 use borrow.Author.Needs.{needs}
 use Rattle.frames.proofs.line.short.Statement.{statement}
 use Rattle.frames.proofs.line.short.Tie as tie
@@ -18,7 +19,7 @@ signed16-requires c κs = search needs
 returns : tie.Need-returns
 returns c =
     let a = c .before .before .before .args in
-    back _ (c .signed16 .ok) ∙ c .signed16 .ensures ∙ ap (toZ w16) (c .before .word .ensures .0) ∙ short-is (drop (a .at) (a .text .now))
+    held _ (c .signed16 .ok) ∙ c .signed16 .ensures ∙ ap (toZ w16) (c .before .word .ensures .0) ∙ short-is (drop (a .at) (a .text .now))
 
 pub short-spec : {M : Type 1} → statement M
 short-spec = tie.close (tie.spec word-requires signed16-requires returns)

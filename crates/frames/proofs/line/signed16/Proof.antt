@@ -2,7 +2,8 @@
 -- Assumes nothing.
 use Prim.Native.Nat.{_-_}
 use mir.Syntax.{w16}
-use Rattle.frames.proofs.Numbers.{low-half, upper-half, upper-half-fits}
+use Rattle.whole.proofs.Signs.{upper-half, upper-half-fits}
+use Rattle.frames.proofs.Numbers.{low-half}
 use native.Mathlib.Omega.{arith}
 use borrow.Author.Needs.{needs}
 use Rattle.frames.proofs.line.signed16.Statement.{statement}

@@ -2,7 +2,7 @@
 -- Assumes nothing.
 use Prim.Native.Nat.{_-_}
 use mir.Syntax.{w32}
-use Rattle.frames.proofs.Numbers.{upper-half, upper-half-fits}
+use Rattle.whole.proofs.Signs.{upper-half, upper-half-fits}
 use native.Mathlib.Omega.{arith}
 use borrow.Author.Needs.{needs}
 use Rattle.frames.proofs.line.signed32.Statement.{statement}

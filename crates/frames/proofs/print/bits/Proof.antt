@@ -5,7 +5,7 @@ use Prim.Native.Nat.{_-_}
 use lib.IntN.{ℤ, natAbs}
 use mir.Syntax.{w32}
 use mir.Val.{SFits, ofZ}
-use Rattle.frames.proofs.Numbers.{negative, non-negative}
+use Rattle.whole.proofs.Signs.{negative, non-negative}
 use native.Mathlib.Omega.{arith}
 use Rattle.frames.proofs.print.bits.Statement.{statement}
 use Rattle.frames.proofs.print.bits.Tie as tie

@@ -6,7 +6,7 @@ use lib.ListN.{take, drop}
 use Rattle.rules.specs.Bytes.{bytesOf}
 use Rattle.rules.specs.Frames.{hex}
 use Rattle.frames.specs.Output.{Wrote}
-use Rattle.frames.proofs.Numbers.{back}
+use Rattle.scaling.proofs.Values.{held}
 use Rattle.frames.proofs.Writes.{wrote-none, wrote-length, wrote-same}
 use Rattle.frames.proofs.Printed.{digits-length, number-room, number-again}
 use native.Mathlib.Omega.{arith}
@@ -52,7 +52,7 @@ loop-again c =
     let a = c .before .before .before .before .before .before .before .before .args in
     let l = c .before .before .before .before .before .before .loop in
     let q = c .before .before .before .before .before .before .before .before .pre in
-    (omega arith, number-again (a .zs .now) (a .from) (l .k) (a .count) (omega arith) (q .0) (q .1) (l .inv .1) _ (c .before .before .number .ensures) (back _ (c .before .before .before .number-arg2 .given)))
+    (omega arith, number-again (a .zs .now) (a .from) (l .k) (a .count) (omega arith) (q .0) (q .1) (l .inv .1) _ (c .before .before .number .ensures) (held _ (c .before .before .before .number-arg2 .given)))
 
 same-length : tie.Need-same-length Inv-loop μ-loop
 same-length c =

@@ -6,7 +6,7 @@ use lib.ListN.{length, take}
 use lib.Seq.{length-take-le}
 use Rattle.rules.specs.Frames.{termLines}
 use Rattle.frames.specs.Output.{Wrote}
-use Rattle.frames.proofs.Numbers.{back}
+use Rattle.scaling.proofs.Values.{held}
 use Rattle.frames.proofs.Writes.{wrote-none, wrote-length, wrote-same}
 use Rattle.frames.proofs.Printed.{terms-length, term-inside, term-room, term-again}
 use native.Mathlib.Omega.{arith}
@@ -56,7 +56,7 @@ loop-again c =
     let a = c .before .before .before .before .before .before .before .before .args in
     let l = c .before .before .before .before .before .before .loop in
     let q = c .before .before .before .before .before .before .before .before .pre in
-    (omega arith, term-again (a .d) (l .i) (a .count) (a .cs .now) (a .es .now) (omega arith) (q .0 .0) (q .0 .1) (q .1) (l .inv .1) _ (back _ (c .before .before .before .term-arg2 .given)) (c .before .before .term .ensures))
+    (omega arith, term-again (a .d) (l .i) (a .count) (a .cs .now) (a .es .now) (omega arith) (q .0 .0) (q .0 .1) (q .1) (l .inv .1) _ (held _ (c .before .before .before .term-arg2 .given)) (c .before .before .term .ensures))
 
 same-length : tie.Need-same-length Inv-loop μ-loop
 same-length c =

@@ -6,7 +6,7 @@ use lib.ListN.{length, drop}
 use lib.Seq.{paste, paste-zero}
 use Rattle.rules.specs.Bytes.{shorts}
 use Rattle.rules.specs.Frames.{unhex}
-use Rattle.frames.proofs.Numbers.{back}
+use Rattle.scaling.proofs.Values.{held}
 use Rattle.frames.proofs.Stored.{fill-digits, fill-length, fill-again}
 use native.Mathlib.Omega.{arith}
 use Rattle.frames.proofs.read.fill.Statement.{statement}
@@ -60,7 +60,7 @@ loop-again : tie.Need-loop-again Inv-loop μ-loop
 loop-again c =
     let a = c .before .before .before .before .args in
     let l = c .before .before .loop in
-    (omega arith, fill-again (a .a .now) (a .from) (a .text .now) (a .at) (a .count) (l .k) (l .a) _ (omega arith) (c .before .before .before .before .pre .0) (l .inv .1) (back _ (c .short .ok) ∙ c .short .ensures))
+    (omega arith, fill-again (a .a .now) (a .from) (a .text .now) (a .at) (a .count) (l .k) (l .a) _ (omega arith) (c .before .before .before .before .pre .0) (l .inv .1) (held _ (c .short .ok) ∙ c .short .ensures))
 
 same-length : tie.Need-same-length Inv-loop μ-loop
 same-length c =

@@ -9,12 +9,13 @@ use lib.ListN.{length}
 use denote.Ref.{now}
 use borrow.Author.Needs.{needs}
 use borrow.Author.Tests.{not-true, not-false}
+use Rattle.whole.proofs.Tests.{and-both}
 use Rattle.rules.specs.Limits.{sizesInRange}
 use Rattle.rules.specs.Problem.{Problem}
 use Rattle.rules.specs.Calls.{Check, verdict, unless, problemFits, sizesCheck, inputsCheck, outputsCheck, moduliCheck, entriesCheck}
-use Rattle.theory.proofs.MoreTests.{and-true}
+use Rattle.theory.proofs.Accepted.{sizes-passed, lengths-passed}
 use Rattle.scaling.specs.Checks.{Says, takes, given}
-use Rattle.scaling.proofs.Verdicts.{refuses-here, says-next, sizes-passed, lengths-passed}
+use Rattle.scaling.proofs.Verdicts.{refuses-here, says-next}
 use Rattle.scaling.proofs.checks.problem.Statement.{statement}
 use Rattle.scaling.proofs.checks.problem.Tie as tie
 
@@ -71,7 +72,7 @@ few : (c : tie.Else2) → (length (now (start2 c .args .moduli)) ≤ 8) × (leng
 few c =
     let s = start2 c in
     let z = sizes-passed (s .args .m) (s .args .n) (sizes-in (c .before .before .before)) in
-    let l = lengths-passed (P s) (and-true (problemFits (P s)) (s .args .more) (inputs-fit c) .0) in
+    let l = lengths-passed (P s) (and-both (problemFits (P s)) (s .args .more) (inputs-fit c) .0) in
     (omega (arith, l .1, z .m-high), omega (arith, l .0, mul-le-mul (z .m-high) (z .n-high)))
 
 -- ---- the checks passed so far leave it to those that follow

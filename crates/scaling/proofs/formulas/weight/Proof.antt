@@ -9,12 +9,13 @@ use mir.Val.{toZ, ofZ}
 use mir.Facts.{toZ-ofZ}
 use denote.Ref.{now}
 use borrow.Author.Needs.{needs}
+use Rattle.whole.proofs.Order.{non-zero-size}
+use Rattle.whole.proofs.Tests.{passed, failed}
 use Rattle.rules.specs.Limits.{isZero}
 use Rattle.rules.specs.Problem.{Problem, modulus}
 use Rattle.rules.specs.Formulas.{rowTimes, remainder}
-use Rattle.theory.proofs.MoreNumbers.{non-zero-size}
-use Rattle.theory.proofs.MoreTests.{passed, failed, isZero?}
 use Rattle.theory.proofs.Weights.{weight-without, weight-with}
+use Rattle.theory.proofs.Limits.{isZero?}
 use Rattle.scaling.specs.Problem.{problemOf}
 use Rattle.scaling.specs.Terms.{from}
 use Rattle.scaling.proofs.Weighing.{place-fits, row-products, row-size, row-read, modulus-fits, is-weight}

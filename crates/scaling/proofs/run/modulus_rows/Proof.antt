@@ -8,9 +8,9 @@ use borrow.Author.Needs.{needs}
 use lib.ListN.{length}
 use mir.Syntax.{w32}
 use mir.Facts.{toZ-ofZ}
+use borrow.Author.Tests.{not-true, not-false}
 use Rattle.whole.specs.Lists.{nth}
 use Rattle.rules.specs.Limits.{isZero}
-use Rattle.theory.proofs.MoreTests.{not-true, not-false}
 use Rattle.scaling.proofs.Listing.{Listed, listed-none, listed-all, listed-passed, listed-with}
 use Rattle.scaling.proofs.run.modulus_rows.Statement.{statement}
 use Rattle.scaling.proofs.run.modulus_rows.Tie as tie

@@ -6,14 +6,16 @@ use Prim.Native.Nat.{_+_, _-_, _≤_}
 use native.Mathlib.Numerals.{add-one}
 use native.Mathlib.Omega.{arith}
 use borrow.Author.Needs.{needs}
-use borrow.Author.Tests.{not-false, not-true}
+use borrow.Author.Tests.{eqb-true, eqb-false, not-false, not-true}
 use Rattle.whole.specs.Lists.{nth}
+use Rattle.whole.proofs.Tests.{is-true, is-false}
 use Rattle.rules.specs.Limits.{isZero}
 use Rattle.rules.specs.Search.{none, first}
 use Rattle.rules.specs.Stages.{isOther}
 use Rattle.scaling.specs.Scan.{sizes}
 use Rattle.scaling.proofs.Values.{held}
-use Rattle.scaling.proofs.Loops.{first-start, first-pass, first-stop, is-other, not-other}
+use Rattle.theory.proofs.Search.{is-other}
+use Rattle.theory.proofs.Loops.{first-start, first-more, first-hit}
 use Rattle.scaling.proofs.work.other.Statement.{statement}
 use Rattle.scaling.proofs.work.other.Tie as tie
 
@@ -48,7 +50,8 @@ returns c =
     = sym (ap isZero (held (nth (a .x .now) (l .j + a .base)) (z .before .is-zero-arg .given))) ∙ sym (z .is-zero .ensures) ∙ not-true _ (c .if2 .taken) in
     record {
       upto = omega arith;
-      hit = first-stop (isOther f (a .p)) (a .lo) (l .j) (l .inv .0) (l .inv .2) (is-other f (a .p) (l .j) (z .before .before .if1 .taken) e) (a .hi);
+      hit = λ h. first-hit (isOther f (a .p)) (a .lo) (l .j) (a .hi) (l .inv .0) h (l .inv .2)
+          (is-true (is-other f (a .p) (l .j)) (λ n. eqb-false (f (l .j)) 0 e (n (z .before .before .if1 .taken))));
       miss = λ h. absurd (omega arith);
     }
 
@@ -66,10 +69,10 @@ loop-again c =
       omega arith,
       omega arith,
       ap (first (isOther f (a .p)) (a .lo)) (add-one (l .j))
-          ∙ first-pass (isOther f (a .p)) (a .lo) (l .j) (l .inv .0) (l .inv .2) (not-other f (a .p) (l .j) (λ d. ⊎-elim
+          ∙ first-more (isOther f (a .p)) (a .lo) (l .j) (l .inv .0) (l .inv .2) (is-false (is-other f (a .p) (l .j)) (λ o. o .1 (eqb-true (f (l .j)) 0 (⊎-elim
           (λ w. sym (ap isZero (held (nth (a .x .now) (l .j + a .base)) (w .1 .given))) ∙ sym (w .2 .ensures) ∙ not-false _ (w .3 .left))
-          (λ w. absurd (d (w .left)))
-          (c .if1 .came))),
+          (λ w. absurd (o .0 (w .left)))
+          (c .if1 .came))))),
     )
 
 returns-2 : tie.Need-returns-2 Inv-loop μ-loop

@@ -14,7 +14,7 @@ use Rattle.rules.specs.Search.{last}
 use Rattle.scaling.specs.Scan.{sizes}
 use Rattle.scaling.proofs.Values.{held}
 use Rattle.scaling.proofs.Places.{cell}
-use Rattle.scaling.proofs.Loops.{last-none, last-pass, last-stop}
+use Rattle.theory.proofs.Loops.{last-end, last-more, last-hit}
 use Rattle.scaling.proofs.work.pivot_row.Statement.{statement}
 use Rattle.scaling.proofs.work.pivot_row.Tie as tie
 
@@ -70,7 +70,7 @@ returns c =
     record {
       upto = omega arith;
       hit = λ _. l .inv .1 ∙ ap (last (filled (a .v .now) (a .n) (a .c))) (sym e)
-          ∙ last-stop (filled (a .v .now) (a .n) (a .c)) (l .k - 1) (ap not (sym (test (c .before))) ∙ c .if1 .taken);
+          ∙ last-hit (filled (a .v .now) (a .n) (a .c)) (l .k - 1) (ap not (sym (test (c .before))) ∙ c .if1 .taken);
       miss = λ h. absurd (omega arith);
     }
 
@@ -85,7 +85,7 @@ loop-again c =
     let e : suc (l .k - 1) ≡ l .k = omega arith in (
       omega arith,
       l .inv .1 ∙ ap (last (filled (a .v .now) (a .n) (a .c))) (sym e)
-          ∙ last-pass (filled (a .v .now) (a .n) (a .c)) (l .k - 1) (ap not (sym (test (c .before))) ∙ c .if1 .left),
+          ∙ last-more (filled (a .v .now) (a .n) (a .c)) (l .k - 1) (ap not (sym (test (c .before))) ∙ c .if1 .left),
     )
 
 returns-2 : tie.Need-returns-2 Inv-loop μ-loop
@@ -93,7 +93,7 @@ returns-2 c =
     let l = c .before .loop in
     let a = c .before .before .args in
     let e : l .k ≡ 0 = omega arith in
-    record { upto = omega arith; hit = λ h. absurd (omega arith); miss = λ _. (rw e at (l .inv .1)) ∙ last-none (filled (a .v .now) (a .n) (a .c)) }
+    record { upto = omega arith; hit = λ h. absurd (omega arith); miss = λ _. (rw e at (l .inv .1)) ∙ last-end (filled (a .v .now) (a .n) (a .c)) }
 
 pub pivot-row-spec : {M : Type 1} → statement M
 pivot-row-spec =

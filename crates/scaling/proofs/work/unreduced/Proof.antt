@@ -11,7 +11,7 @@ use mir.Syntax.{w64}
 use mir.Facts.{toZ-ofZ}
 use Rattle.rules.specs.Limits.{isZero}
 use Rattle.scaling.specs.Scan.{inRange, Unreduced}
-use Rattle.theory.proofs.MoreNumbers.{below-suc}
+use Rattle.whole.proofs.Order.{below-suc}
 use Rattle.scaling.proofs.work.unreduced.Statement.{statement}
 use Rattle.scaling.proofs.work.unreduced.Tie as tie
 

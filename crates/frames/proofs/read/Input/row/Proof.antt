@@ -3,10 +3,10 @@
 use mathlib.Core.Path.{_∙_}
 use Prim.Native.Nat.{_+_, _*_}
 use lib.Seq.{drop-drop}
+use Rattle.whole.proofs.Order.{row-within}
 use Rattle.frames.specs.Input.{withRow}
 use Rattle.frames.proofs.Digits.{part-digits}
-use Rattle.frames.proofs.Numbers.{back}
-use Rattle.frames.proofs.Stored.{row-room}
+use Rattle.scaling.proofs.Values.{held}
 use native.Mathlib.Omega.{arith}
 use borrow.Author.Needs.{needs}
 use Rattle.frames.proofs.read.Input.row.Statement.{statement}
@@ -31,7 +31,7 @@ mul-fill-matrix : tie.Need-mul-fill-matrix
 mul-fill-matrix c =
     let a = c .before .before .before .args in
     let p = c .before .before .before .pre in
-    let r = row-room (a .i) (a .n) 8 16 (p .rows) (p .columns) in
+    let r = row-within (a .i) (a .n) 8 16 (p .rows) (p .columns) in
     omega arith
 
 add-fill-matrix : tie.Need-add-fill-matrix
@@ -41,14 +41,14 @@ fill-matrix-requires : tie.Need-fill-matrix-requires
 fill-matrix-requires c κs =
     let a = c .before .before .before .args in
     let p = c .before .before .before .pre in
-    let r = row-room (a .i) (a .n) 8 16 (p .rows) (p .columns) in
+    let r = row-within (a .i) (a .n) 8 16 (p .rows) (p .columns) in
     (p .matrix, (omega (arith, p .matrix), (omega arith, part-digits (a .text .now) (a .at) (6 + 4 * a .n) 6 (4 * a .n) (p .clean) (omega arith))))
 
 returns : tie.Need-returns
 unfolding withRow
 returns c =
     let a = c .before .before .before .before .args in
-    let z = back _ (c .before .before .short .ok) ∙ c .before .before .short .ensures in
+    let z = held _ (c .before .before .short .ok) ∙ c .before .before .short .ensures in
     rw (z, c .fill-matrix .ensures, drop-drop 2 (a .at) (a .text .now), drop-drop 6 (a .at) (a .text .now))
 
 pub row-spec : {M : Type 1} → statement M

@@ -4,10 +4,10 @@ use mathlib.Core.Path.{_∙_}
 use Prim.Native.Nat.{_+_, _*_}
 use native.Mathlib.Numerals.{add-one}
 use lib.Seq.{drop-drop}
+use Rattle.whole.proofs.Order.{row-within}
 use Rattle.frames.specs.Input.{withTerm}
 use Rattle.frames.proofs.Digits.{part-digits}
-use Rattle.frames.proofs.Numbers.{back}
-use Rattle.frames.proofs.Stored.{row-room}
+use Rattle.scaling.proofs.Values.{held}
 use native.Mathlib.Omega.{arith}
 use borrow.Author.Needs.{needs}
 use Rattle.frames.proofs.read.Input.term.Statement.{statement}
@@ -32,7 +32,7 @@ mul-fill-exponents : tie.Need-mul-fill-exponents
 mul-fill-exponents c =
     let a = c .before .before .before .args in
     let p = c .before .before .before .pre in
-    let r = row-room (a .k) (a .n) 64 16 (p .terms) (p .columns) in
+    let r = row-within (a .k) (a .n) 64 16 (p .terms) (p .columns) in
     omega arith
 
 add-fill-exponents : tie.Need-add-fill-exponents
@@ -42,7 +42,7 @@ fill-exponents-requires : tie.Need-fill-exponents-requires
 fill-exponents-requires c κs =
     let a = c .before .before .before .args in
     let p = c .before .before .before .pre in
-    let r = row-room (a .k) (a .n) 64 16 (p .terms) (p .columns) in
+    let r = row-within (a .k) (a .n) 64 16 (p .terms) (p .columns) in
     (p .exponents, (omega (arith, p .exponents), (omega arith, part-digits (a .text .now) (a .at) (10 + 4 * a .n) 10 (4 * a .n) (p .clean) (omega arith))))
 
 add-self : tie.Need-add-self
@@ -52,7 +52,7 @@ returns : tie.Need-returns
 unfolding withTerm
 returns c =
     let a = c .before .before .before .before .args in
-    let z = back _ (c .before .before .long .ok) ∙ c .before .before .long .ensures in
+    let z = held _ (c .before .before .long .ok) ∙ c .before .before .long .ensures in
     rw (z, c .fill-exponents .ensures, drop-drop 2 (a .at) (a .text .now), drop-drop 10 (a .at) (a .text .now), add-one)
 
 pub term-spec : {M : Type 1} → statement M

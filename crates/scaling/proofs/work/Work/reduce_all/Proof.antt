@@ -12,7 +12,7 @@ use mir.Val.{toZ, ofZ}
 use mir.Facts.{toZ-ofZ}
 use Rattle.whole.specs.Division.{floorZ}
 use Rattle.whole.specs.Lists.{nth}
-use Rattle.theory.proofs.MoreTests.{not-true, not-false}
+use borrow.Author.Tests.{not-true, not-false}
 use Rattle.scaling.specs.Rows.{Pivot}
 use Rattle.scaling.proofs.State.{Long}
 use Rattle.scaling.proofs.TableRow.{RowIn, row-of-table, row-short}

@@ -1,28 +1,16 @@
--- Lists made from a function of the index, and the grid of a matrix, row after row.
-use mathlib.Core.Path.{_≡_, refl, _∙_, ap, ap₂}
-use mathlib.Core.List.{List, [], _∷_, map}
-use Prim.Native.Nat.{ℕ, zero, suc, _+_, _*_, _≤_, _<_}
+-- The grid of a matrix, row after row, and such a list read as a matrix of n columns.
+use mathlib.Core.Path.{_≡_, _∙_, ap}
+use mathlib.Core.List.{List}
+use Prim.Native.Nat.{ℕ, _+_, _*_, _≤_, _<_}
 use native.Mathlib.Omega.{arith}
 use native.Mathlib.Nat.{mul-le-mul}
-use lib.ListN.{length, getD}
+use lib.ListN.{length}
 use lib.IntN.{ℤ, pos}
 use Rattle.whole.specs.Lists.{nth, tab, join}
 use Rattle.whole.specs.Matrix.{Matrix}
-use Rattle.whole.proofs.Lists.{length-tab, nth-tab, length-join, join-at, lists-same}
+use Rattle.whole.proofs.Lists.{tab-cong, length-tab, nth-tab, length-join, join-at, lists-same}
 use Rattle.rules.specs.Calls.{grid}
 
--- List·getD-map of lib.ListN, for an index in the list and any two defaults
-pub getD-map {ℓ κ} : {A : Type ℓ} {B : Type κ} (f : A → B) (xs : List A) (i : ℕ) (a : A) (b : B) → i < length xs
-    → getD (map f xs) i b ≡ f (getD xs i a)
-getD-map f [] i a b h = absurd (omega arith)
-getD-map f (x ∷ xs) zero a b h = refl
-getD-map f (x ∷ xs) (suc i) a b h = getD-map f xs i a b (omega arith)
-
-pub tab-cong {ℓ} : {A : Type ℓ} (n : ℕ) (f g : ℕ → A) → ((i : ℕ) → i < n → f i ≡ g i) → tab n f ≡ tab n g
-tab-cong zero f g h = refl
-tab-cong (suc n) f g h = ap₂ _∷_ (h 0 (omega arith)) (tab-cong n (λ i. f (suc i)) (λ i. g (suc i)) (λ i l. h (suc i) (omega arith)))
-
--- ---- grids, and such lists read as a matrix of n columns
 abbrev pub table : (n : ℕ) → List ℤ → Matrix
 table n xs i j = nth xs (i * n + j)
 

@@ -1,0 +1,69 @@
+-- No refusal has the number 0, and the build's checks are among the translation's.
+use mathlib.Core.Path.{_≡_, refl, _∙_}
+use mathlib.Core.Logic.{_≢_}
+use mathlib.Core.Bool.{Bool, true, false}
+use mathlib.Core.List.{List, [], _∷_}
+use Prim.Native.Nat.{ℕ}
+use native.Mathlib.Omega.{arith}
+use Rattle.rules.specs.Search.{Found, none, found, first}
+use Rattle.rules.specs.Problem.{Problem}
+use Rattle.rules.specs.Stages.{run}
+use Rattle.rules.specs.Formulas.{Formula, isFree, term, terms}
+use Rattle.rules.specs.Calls.{Check, taken, refused, verdict, termsFault, termRefused}
+use Rattle.rules.specs.Calls.{sizesCheck, inputsCheck, outputsCheck, moduliCheck, entriesCheck, exponentsCheck, rangeCheck, termsCheck}
+use Rattle.rules.specs.Calls.{buildVerdict, translateVerdict}
+use Rattle.theory.proofs.Accepted.{all-pass, taken-of-all}
+
+-- a check that finds a fault has a number that is not 0
+abbrev Numbered : Check → Type 0
+Numbered c = (place : ℕ) → c .fault ≡ found place → c .number ≢ 0
+
+abbrev AllNumbered : List Check → Type 0
+AllNumbered [] = Unit {0}
+AllNumbered (c ∷ cs) = Numbered c × AllNumbered cs
+
+not-0 : (cs : List Check) → AllNumbered cs → (k p : ℕ) → verdict cs ≡ refused k p → k ≢ 0
+not-0 [] a k p e = let z : _≡_ {A = ℕ} 0 1 = cc in absurd (omega arith)
+not-0 (c ∷ cs) a k p e = go (c .fault) (a .0) (not-0 cs (a .1) k p) e
+  where
+    go : (x : Found) → ((place : ℕ) → x ≡ found place → c .number ≢ 0) → (verdict cs ≡ refused k p → k ≢ 0)
+        → elim x [ none ↦ verdict cs | found place ↦ refused (c .number) place ] ≡ refused k p → k ≢ 0
+    go none n later e = later e
+    go (found q) n later e = let f : c .number ≡ k = cc in λ z. n q refl (f ∙ z)
+
+terms-numbered : (P : Problem) (f : Formula) (x : Found) → Numbered (termsFault P f x)
+terms-numbered P f none place e = let z : _≡_ {A = ℕ} 0 1 = cc in absurd (omega arith)
+terms-numbered P f (found t) place e = go (isFree P (term P f t))
+  where
+    go : (b : Bool) → _≢_ {A = ℕ} (elim b [ true ↦ 9 | false ↦ 8 ]) 0
+    go true z = omega arith
+    go false z = omega arith
+
+module _ (P : Problem) (inputs outputs : Bool) where
+  abbrev checks : List Check → List Check
+  checks more = sizesCheck P ∷ inputsCheck inputs ∷ outputsCheck outputs ∷ moduliCheck P ∷ entriesCheck P ∷ more
+
+  five-numbered : (more : List Check) → AllNumbered more → AllNumbered (checks more)
+  five-numbered more a =
+      (λ q f z. omega arith, (λ q f z. omega arith, (λ q f z. omega arith, (λ q f z. omega arith, (λ q f z. omega arith, a)))))
+
+  pub build-not-0 : (k p : ℕ) → buildVerdict P inputs outputs ≡ refused k p → k ≢ 0
+  unfolding buildVerdict
+  build-not-0 k p e = not-0 (checks (rangeCheck (run P) ∷ [])) (five-numbered (rangeCheck (run P) ∷ []) (λ q f z. omega arith, tt)) k p e
+
+  module _ (f : Formula) where
+    abbrev rest : List Check
+    rest = exponentsCheck (f .exponents) ∷ rangeCheck (run P) ∷ termsCheck P (run P) f ∷ []
+
+    pub translate-not-0 : (k p : ℕ) → translateVerdict P f inputs outputs ≡ refused k p → k ≢ 0
+    unfolding translateVerdict
+    translate-not-0 k p e =
+        let last = terms-numbered P f (first (λ t. termRefused P (run P) (term P f t)) 0 (terms f)) in
+        not-0 (checks rest) (five-numbered rest (λ q f z. omega arith, (λ q f z. omega arith, (last, tt)))) k p e
+
+    pub build-taken : translateVerdict P f inputs outputs ≡ taken → buildVerdict P inputs outputs ≡ taken
+    unfolding translateVerdict buildVerdict
+    build-taken e =
+        let a = all-pass (checks rest) e in
+        let b = a .1 .1 .1 .1 in
+        taken-of-all (checks (rangeCheck (run P) ∷ [])) (a .0, (a .1 .0, (a .1 .1 .0, (a .1 .1 .1 .0, (b .0, (b .1 .1 .0, tt))))))
