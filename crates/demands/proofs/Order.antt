@@ -1,9 +1,9 @@
 -- Demand 1: "refused by number, in the fixed order". Document 01: "Checks go in the order of the numbers".
 -- What the verdict of a list of checks is, in words without recursion: the first check of the list that finds a fault decides, and a call is taken
 -- exactly when none does.
-use mathlib.Core.Path.{_≡_, refl, sym, _∙_, ap}
-use mathlib.Core.Logic.{_↔_, _⊎_, inl, inr}
-use mathlib.Core.Bool.{Bool, true, false, not}
+use mathlib.Core.Path.{_≡_, refl, sym, _∙_, ap, subst}
+use mathlib.Core.Logic.{_≢_, _↔_, _⊎_, inl, inr}
+use mathlib.Core.Bool.{Bool, true, false, not, _||_}
 use mathlib.Core.List.{List, [], _∷_, _++_, map}
 use Prim.Native.Nat.{ℕ, zero, suc, _≤_, _<_}
 use native.Mathlib.Omega.{arith}
@@ -11,20 +11,22 @@ use native.Mathlib.Decide.{decLt}
 use lib.ListN.{length}
 use lib.IntN.{ℤ, natAbs}
 use Rattle.whole.specs.Lists.{nth}
-use Rattle.whole.proofs.Tests.{Test, pass, fail, lt?, is-true}
-use Rattle.rules.specs.Limits.{M, beyond}
+use Rattle.whole.proofs.Tests.{Test, pass, fail, lt?, is-true, is-false}
+use Rattle.rules.specs.Limits.{M, beyond, sizesInRange}
 use Rattle.rules.specs.Search.{Found, none, found, orAt, first}
 use Rattle.rules.specs.Problem.{Problem}
 use Rattle.rules.specs.Stages.{Run, run}
 use Rattle.rules.specs.Formulas.{Free, isFree, passes, d, translated, Formula, terms, term}
-use Rattle.rules.specs.Calls.{Check, Verdict, taken, refused, verdict, firstOut, exponentsCheck, rangeCheck, termsCheck, termsFault, termRefused, termNumber}
+use Rattle.rules.specs.Calls.{Check, Verdict, taken, refused, verdict, firstOut, moduliCheck, entriesCheck, exponentsCheck, rangeCheck, termsCheck, termsFault, termRefused, termNumber}
 use Rattle.rules.specs.Calls.{buildVerdict, weighVerdict, translateVerdict}
 use Rattle.theory.proofs.Search.{FirstIs, no-first, is-first, first-is}
 use Rattle.theory.proofs.MoreSearch.{Nowhere, Somewhere, none?, nowhere-found}
+use Rattle.theory.proofs.Weights.{isFree?, isFree-yes, isFree-no}
 use Rattle.theory.proofs.ExtraTests.{true-not-false}
-use Rattle.theory.proofs.MoreTests.{answer?, passed, failed, not-true, not-false}
-use Rattle.theory.proofs.Accepted.{AllPass, all-pass, TermAccepted, term-accepted}
+use Rattle.theory.proofs.MoreTests.{passed, failed, not-true, not-false}
+use Rattle.theory.proofs.Accepted.{AllPass, all-pass, TermAccepted}
 use Rattle.scaling.specs.Checks.{problemChecks}
+use Rattle.bench.proofs.Verdicts.{refusal-not-0, terms-numbered}
 
 -- ---- the first check that finds a fault decides
 -- a check of the list has this number and finds its fault at this place, and no check before it finds any
@@ -188,6 +190,73 @@ pub record TermDecides (P : Problem) (u : Run) (f : Formula) (number t : ℕ) : 
   pub fault : TermFault P u (term P f t) number
   pub lower : (t′ : ℕ) → t′ < t → TermAccepted P u (term P f t′)
 
+module _ (P : Problem) (u : Run) where
+  term? : (v : ℕ → ℤ) → Test (TermFault P u v (termNumber P v)) (TermAccepted P u v) (termRefused P u v)
+  unfolding passes
+  term? v = go (isFree? P v) (none? large 0 (d P u))
+    where
+      large : ℕ → Bool
+      large g = beyond (translated P u v g)
+
+      go : {b c : Bool} → Test (Free P v) (¬ Free P v) b → Test (Nowhere large 0 (d P u)) (Somewhere large 0 (d P u)) c
+          → Test (TermFault P u v (elim b [ true ↦ 9 | false ↦ 8 ])) (TermAccepted P u v) (not b || not c)
+      go (fail n) _ = pass (not-free n)
+      go (pass f) (pass h) = fail (f, λ g l. failed (lt? M (natAbs (translated P u v g))) (h g (omega arith) l))
+      go (pass f) (fail (g, _, l, e)) = pass (beyond-M f g l (passed (lt? M (natAbs (translated P u v g))) e))
+
+  no-fault : (v : ℕ → ℤ) {number : ℕ} → TermAccepted P u v → TermFault P u v number → ⊥
+  no-fault v a (not-free n) = n (a .0)
+  no-fault v a (beyond-M f g l h) = omega (arith, a .1 g l)
+
+  fault-number : (v : ℕ → ℤ) {number : ℕ} → TermFault P u v number → termNumber P v ≡ number
+  fault-number v (not-free n) = rw (isFree-no P v n, termNumber)
+  fault-number v (beyond-M f g l h) = rw (isFree-yes P v f, termNumber)
+
+  fault-refuses : (v : ℕ → ℤ) {number : ℕ} → TermFault P u v number → termRefused P u v ≡ true
+  fault-refuses v x = is-true (term? v) (λ a. no-fault v a x)
+
+  module _ (f : Formula) where
+    abbrev bad : ℕ → Bool
+    bad t = termRefused P u (term P f t)
+
+    place-of : (x : Found) (t : ℕ) → termsFault P f x .fault ≡ found t → x ≡ found t
+    place-of none t e = let z : _≡_ {A = ℕ} 0 1 = cc in absurd (omega arith)
+    place-of (found i) t e = e
+
+    pub term-decides-exactly : (number t : ℕ)
+        → ((termsCheck P u f .fault ≡ found t) × (termsCheck P u f .number ≡ number)) ↔ TermDecides P u f number t
+    term-decides-exactly number t = (to, back)
+      where
+        to : (termsCheck P u f .fault ≡ found t) × (termsCheck P u f .number ≡ number) → TermDecides P u f number t
+        to e =
+            let x = place-of (first bad 0 (terms f)) t (e .0) in
+            let F = finds bad (terms f) t x in
+            let k : termNumber P (term P f t) ≡ number = ap (λ (y : Found). termsFault P f y .number) (sym x) ∙ e .1 in
+            record {
+              within = F .within;
+              fault = subst (TermFault P u (term P f t)) k (passed (term? (term P f t)) (F .holds));
+              lower = λ t′ l. failed (term? (term P f t′)) (F .lower t′ l);
+            }
+
+        back : TermDecides P u f number t → (termsCheck P u f .fault ≡ found t) × (termsCheck P u f .number ≡ number)
+        back D =
+            let x = found-by bad (terms f) t (record {
+              within = D .within;
+              holds = fault-refuses (term P f t) (D .fault);
+              lower = λ t′ l. is-false (term? (term P f t′)) (no-fault (term P f t′) (D .lower t′ l));
+            }) in
+            rw x (refl, fault-number (term P f t) (D .fault))
+
+    pub all-terms-exactly : (termsCheck P u f .fault ≡ none) ↔ ((t : ℕ) → t < terms f → TermAccepted P u (term P f t))
+    all-terms-exactly = (
+      λ e t l. failed (term? (term P f t)) (finds-none bad (terms f) (none-of (first bad 0 (terms f)) e) t l),
+      λ h. rw (none-found bad (terms f) (λ t l. is-false (term? (term P f t)) (no-fault (term P f t) (h t l)))),
+    )
+      where
+        none-of : (x : Found) → termsFault P f x .fault ≡ none → x ≡ none
+        none-of none e = refl
+        none-of (found i) e = e
+
 -- ---- the checks of each call, in order
 abbrev pub buildChecks : Problem → (inputs outputs : Bool) → List Check
 buildChecks P inputs outputs = problemChecks P inputs outputs ++ rangeCheck (run P) ∷ []
@@ -226,3 +295,34 @@ weigh-numbers P es inputs outputs = refl
 pub translate-numbers : (P : Problem) (f : Formula) (inputs outputs : Bool)
     → numbers (translateChecks P f inputs outputs) ≡ 1 ∷ 2 ∷ 3 ∷ 4 ∷ 5 ∷ 6 ∷ 7 ∷ termsCheck P (run P) f .number ∷ []
 translate-numbers P f inputs outputs = refl
+
+-- none of them is 0, so that the number 0 is left for a call that is taken
+pub build-not-0 : (P : Problem) (inputs outputs : Bool) {number place : ℕ} → DecidedBy (buildChecks P inputs outputs) number place → number ≢ 0
+build-not-0 P inputs outputs {number} {place} D =
+    refusal-not-0 (sizesInRange (P .m) (P .n)) inputs outputs (moduliCheck P ∷ entriesCheck P ∷ rangeCheck (run P) ∷ [])
+    (λ p e z. omega arith, (λ p e z. omega arith, (λ p e z. omega arith, tt)))
+    number place (decided (buildChecks P inputs outputs) number place D)
+
+pub weigh-not-0 : (P : Problem) (es : List ℤ) (inputs outputs : Bool) {number place : ℕ} → DecidedBy (weighChecks P es inputs outputs) number place
+    → number ≢ 0
+weigh-not-0 P es inputs outputs {number} {place} D =
+    refusal-not-0 (sizesInRange (P .m) (P .n)) inputs outputs (moduliCheck P ∷ entriesCheck P ∷ exponentsCheck es ∷ [])
+    (λ p e z. omega arith, (λ p e z. omega arith, (λ p e z. omega arith, tt)))
+    number place (decided (weighChecks P es inputs outputs) number place D)
+
+pub translate-not-0 : (P : Problem) (f : Formula) (inputs outputs : Bool) {number place : ℕ}
+    → DecidedBy (translateChecks P f inputs outputs) number place → number ≢ 0
+translate-not-0 P f inputs outputs {number} {place} D =
+    refusal-not-0 (sizesInRange (P .m) (P .n)) inputs outputs
+    (moduliCheck P ∷ entriesCheck P ∷ exponentsCheck (f .exponents) ∷ rangeCheck (run P) ∷ termsCheck P (run P) f ∷ [])
+    (
+      λ p e z. omega arith,
+      (
+        λ p e z. omega arith,
+        (
+          λ p e z. omega arith,
+          (λ p e z. omega arith, (terms-numbered P f (first (λ t. termRefused P (run P) (term P f t)) 0 (terms f)), tt)),
+        ),
+      ),
+    )
+    number place (decided (translateChecks P f inputs outputs) number place D)

@@ -1,0 +1,81 @@
+-- Demand 1: "Bad sizes, short buffers and numbers beyond their limits". Document 01, the table of checks, 1 to 6: each test is passed exactly when
+-- the limits hold, and a problem passes 1, 2, 4 and 5 exactly when it is well formed.
+use mathlib.Core.Path.{_≡_, refl, ap, subst}
+use mathlib.Core.Logic.{_↔_}
+use mathlib.Core.Bool.{Bool, true, false, not, _&&_}
+use mathlib.Core.List.{List, [], _∷_}
+use Prim.Native.Nat.{ℕ, _*_, _≤_}
+use native.Mathlib.Omega.{arith}
+use lib.Dec.{T, leb, eqb}
+use lib.ListN.{length}
+use lib.IntN.{ℤ, pos, negℤ, natAbs}
+use lib.Signed.{_≤ℤ_, leZ}
+use borrow.Author.Tests.{leb-true, le-leb, eqb-true, eq-eqb}
+use Rattle.whole.specs.Lists.{nth}
+use Rattle.whole.proofs.Order.{zarith, parts, P-neg, N-neg}
+use Rattle.rules.specs.Limits.{within, sizesInRange, modulusInRange, entryInRange, exponentInRange, mostTerms, roomH, roomV, roomW, roomWeights, roomCoefficients, roomExponents}
+use Rattle.rules.specs.Search.{Found, none, found}
+use Rattle.rules.specs.Problem.{Problem, WellFormed}
+use Rattle.rules.specs.Formulas.{Formula, terms}
+use Rattle.rules.specs.Calls.{unless, firstOut, problemFits, formulaFits}
+use Rattle.theory.proofs.MoreTests.{and-true}
+use Rattle.theory.proofs.Accepted.{unless-none, none-out, between, small}
+use Rattle.scaling.proofs.Verdicts.{Sizes, sizes-passed, lengths-passed}
+use Rattle.demands.proofs.Order.{none-out-exactly}
+
+-- ---- tests
+both : {a b : Bool} → a ≡ true → b ≡ true → a && b ≡ true
+both e f = rw (e, f)
+
+-- a check whose place is 0 passes exactly when its test does
+pub unless-exactly : (b : Bool) → (unless b ≡ none) ↔ (b ≡ true)
+unless-exactly b = (unless-none b, λ e. ap unless e)
+
+pub at-least : (least k : ℕ) → (leb least k ≡ true) ↔ (least ≤ k)
+at-least least k = (leb-true least k, le-leb least k)
+
+-- ---- 1: "m is 1 to 8; n is 1 to 16"
+pub sizes-exactly : (m n : ℕ) → (sizesInRange m n ≡ true) ↔ Sizes m n
+sizes-exactly m n = (sizes-passed m n, λ S. both (both (le-leb 1 m (S .m-low)) (le-leb m 8 (S .m-high))) (both (le-leb 1 n (S .n-low)) (le-leb n 16 (S .n-high))))
+
+-- ---- 2: "matrix m·n, moduli m, coefficients one and exponents n per term; more than 64 terms"
+pub problem-fits-exactly : (P : Problem) → (problemFits P ≡ true) ↔ ((length (P .matrix) ≡ P .m * P .n) × (length (P .moduli) ≡ P .m))
+problem-fits-exactly P = (
+  lengths-passed P,
+  λ l. both (eq-eqb (length (P .matrix)) (P .m * P .n) (l .0)) (eq-eqb (length (P .moduli)) (P .m) (l .1)),
+)
+
+pub formula-fits-exactly : (P : Problem) (f : Formula) → (formulaFits P f ≡ true) ↔ ((length (f .exponents) ≡ terms f * P .n) × (terms f ≤ 64))
+formula-fits-exactly P f = (
+  λ e. let a = and-true (eqb (length (f .exponents)) (terms f * P .n)) (leb (terms f) mostTerms) e in
+  (eqb-true (length (f .exponents)) (terms f * P .n) (a .0), leb-true (terms f) mostTerms (a .1)),
+  λ l. both (eq-eqb (length (f .exponents)) (terms f * P .n) (l .0)) (le-leb (terms f) mostTerms (l .1)),
+)
+
+-- ---- 4, 5 and 6: "moduli 0 to 1000", "entries -1000 to 1000", "formula exponents -10,000 to 10,000"
+true-of : (b : Bool) → T b → b ≡ true
+true-of true t = refl
+true-of false t = absurd t
+
+leZ-is : (a b : ℤ) → a ≤ℤ b → leZ a b ≡ true
+leZ-is a b h = true-of (leZ a b) (h .le)
+
+-- from -k to k
+either-way : (k : ℕ) (z : ℤ) → (within (negℤ (pos k)) (pos k) z ≡ true) ↔ (natAbs z ≤ k)
+either-way k z = (
+  small k z,
+  λ h. both (leZ-is (negℤ (pos k)) z (omega (zarith, parts z, P-neg (pos k), N-neg (pos k)))) (leZ-is z (pos k) (omega (zarith, parts z))),
+)
+
+pub entry-exactly : (z : ℤ) → (entryInRange z ≡ true) ↔ (natAbs z ≤ 1000)
+entry-exactly z = either-way 1000 z
+
+pub exponent-exactly : (z : ℤ) → (exponentInRange z ≡ true) ↔ (natAbs z ≤ 10_000)
+exponent-exactly z = either-way 10_000 z
+
+pub modulus-exactly : (z : ℤ) → (modulusInRange z ≡ true) ↔ ((pos 0 ≤ℤ z) × (natAbs z ≤ 1000))
+modulus-exactly z = (
+  λ e. let b = between (pos 0) (pos 1000) z e in
+  (b .0, omega (zarith, b .0, b .1, parts z)),
+  λ h. both (leZ-is (pos 0) z (h .0)) (leZ-is z (pos 1000) (omega (zarith, h .1, parts z))),
+)
