@@ -79,3 +79,38 @@ modulus-exactly z = (
   (b .0, omega (zarith, b .0, b .1, parts z)),
   λ h. both (leZ-is (pos 0) z (h .0)) (leZ-is z (pos 1000) (omega (zarith, h .1, parts z))),
 )
+
+-- ---- a problem passes 1, 2, 4 and 5 exactly when it is well formed
+abbrev pub PassesLimits : Problem → Type 0
+PassesLimits P =
+    (sizesInRange (P .m) (P .n) ≡ true) × (problemFits P ≡ true)
+    × (firstOut modulusInRange (P .moduli) ≡ none) × (firstOut entryInRange (P .matrix) ≡ none)
+
+pub well-formed-exactly : (P : Problem) → PassesLimits P ↔ WellFormed P
+well-formed-exactly P = (to, back)
+  where
+    to : PassesLimits P → WellFormed P
+    to a =
+        let sizes = sizes-passed (P .m) (P .n) (a .0) in
+        let lengths = lengths-passed P (a .1) in
+        let modulus : (i : ℕ) → (pos 0 ≤ℤ nth (P .moduli) i) × (natAbs (nth (P .moduli) i) ≤ 1000)
+        = λ i. modulus-exactly (nth (P .moduli) i) .0 (none-out modulusInRange refl (P .moduli) (a .2) i) in
+        record {
+          m-low = sizes .m-low;
+          m-high = sizes .m-high;
+          n-low = sizes .n-low;
+          n-high = sizes .n-high;
+          matrix = lengths .0;
+          moduli = lengths .1;
+          entries = λ i. entry-exactly (nth (P .matrix) i) .0 (none-out entryInRange refl (P .matrix) (a .3) i);
+          moduli-low = λ i. modulus i .0;
+          moduli-high = λ i. modulus i .1;
+        }
+
+    back : WellFormed P → PassesLimits P
+    back F = (
+      sizes-exactly (P .m) (P .n) .1 (record { m-low = F .m-low; m-high = F .m-high; n-low = F .n-low; n-high = F .n-high }),
+      problem-fits-exactly P .1 (F .matrix, F .moduli),
+      none-out-exactly modulusInRange (P .moduli) .1 (λ i _. modulus-exactly (nth (P .moduli) i) .1 (F .moduli-low i, F .moduli-high i)),
+      none-out-exactly entryInRange (P .matrix) .1 (λ i _. entry-exactly (nth (P .matrix) i) .1 (F .entries i)),
+    )

@@ -297,22 +297,22 @@ pub translate-numbers : (P : Problem) (f : Formula) (inputs outputs : Bool)
 translate-numbers P f inputs outputs = refl
 
 -- none of them is 0, so that the number 0 is left for a call that is taken
-pub build-not-0 : (P : Problem) (inputs outputs : Bool) {number place : ℕ} → DecidedBy (buildChecks P inputs outputs) number place → number ≢ 0
-build-not-0 P inputs outputs {number} {place} D =
+pub build-not-0 : (P : Problem) (inputs outputs : Bool) (number place : ℕ) → DecidedBy (buildChecks P inputs outputs) number place → number ≢ 0
+build-not-0 P inputs outputs number place D =
     refusal-not-0 (sizesInRange (P .m) (P .n)) inputs outputs (moduliCheck P ∷ entriesCheck P ∷ rangeCheck (run P) ∷ [])
     (λ p e z. omega arith, (λ p e z. omega arith, (λ p e z. omega arith, tt)))
     number place (decided (buildChecks P inputs outputs) number place D)
 
-pub weigh-not-0 : (P : Problem) (es : List ℤ) (inputs outputs : Bool) {number place : ℕ} → DecidedBy (weighChecks P es inputs outputs) number place
+pub weigh-not-0 : (P : Problem) (es : List ℤ) (inputs outputs : Bool) (number place : ℕ) → DecidedBy (weighChecks P es inputs outputs) number place
     → number ≢ 0
-weigh-not-0 P es inputs outputs {number} {place} D =
+weigh-not-0 P es inputs outputs number place D =
     refusal-not-0 (sizesInRange (P .m) (P .n)) inputs outputs (moduliCheck P ∷ entriesCheck P ∷ exponentsCheck es ∷ [])
     (λ p e z. omega arith, (λ p e z. omega arith, (λ p e z. omega arith, tt)))
     number place (decided (weighChecks P es inputs outputs) number place D)
 
-pub translate-not-0 : (P : Problem) (f : Formula) (inputs outputs : Bool) {number place : ℕ}
+pub translate-not-0 : (P : Problem) (f : Formula) (inputs outputs : Bool) (number place : ℕ)
     → DecidedBy (translateChecks P f inputs outputs) number place → number ≢ 0
-translate-not-0 P f inputs outputs {number} {place} D =
+translate-not-0 P f inputs outputs number place D =
     refusal-not-0 (sizesInRange (P .m) (P .n)) inputs outputs
     (moduliCheck P ∷ entriesCheck P ∷ exponentsCheck (f .exponents) ∷ rangeCheck (run P) ∷ termsCheck P (run P) f ∷ [])
     (
