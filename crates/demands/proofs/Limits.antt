@@ -4,7 +4,7 @@ use mathlib.Core.Path.{_≡_, refl, ap, subst}
 use mathlib.Core.Logic.{_↔_}
 use mathlib.Core.Bool.{Bool, true, false, not, _&&_}
 use mathlib.Core.List.{List, [], _∷_}
-use Prim.Native.Nat.{ℕ, _*_, _≤_}
+use Prim.Native.Nat.{ℕ, _+_, _*_, _≤_}
 use native.Mathlib.Omega.{arith}
 use lib.Dec.{T, leb, eqb}
 use lib.ListN.{length}
@@ -19,6 +19,7 @@ use Rattle.rules.specs.Problem.{Problem, WellFormed}
 use Rattle.rules.specs.Formulas.{Formula, terms}
 use Rattle.rules.specs.Calls.{unless, firstOut, problemFits, formulaFits}
 use Rattle.theory.proofs.MoreTests.{and-true}
+use Rattle.theory.proofs.Sizes.{Limited}
 use Rattle.theory.proofs.Accepted.{unless-none, none-out, between, small}
 use Rattle.scaling.proofs.Verdicts.{Sizes, sizes-passed, lengths-passed}
 use Rattle.demands.proofs.Order.{none-out-exactly}
@@ -114,3 +115,12 @@ well-formed-exactly P = (to, back)
       none-out-exactly modulusInRange (P .moduli) .1 (λ i _. modulus-exactly (nth (P .moduli) i) .1 (F .moduli-low i, F .moduli-high i)),
       none-out-exactly entryInRange (P .matrix) .1 (λ i _. entry-exactly (nth (P .matrix) i) .1 (F .entries i)),
     )
+
+-- the part of it that the laws of sizes ask
+pub limited-of : {P : Problem} → WellFormed P → Limited P
+limited-of {P} F = record {
+  rows = F .m-high;
+  quantities = F .n-high;
+  oneModulusEach = F .moduli;
+  entries = λ i j a b. F .entries (i * P .n + j);
+}
