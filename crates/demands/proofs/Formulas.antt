@@ -17,19 +17,21 @@ use lib.ListN.{length, drop}
 use lib.IntN.{ℤ, natAbs, _*ℤ_}
 use borrow.Author.Tests.{leb-true, le-leb}
 use Rattle.whole.specs.Lists.{nth}
+use Rattle.whole.specs.Matrix.{Matrix}
 use Rattle.whole.specs.Sum.{sum}
 use Rattle.whole.proofs.Sum.{sum-cong}
 use Rattle.rules.specs.Limits.{M, roomCoefficients, roomExponents, exponentInRange, sizesInRange}
 use Rattle.rules.specs.Problem.{Problem, WellFormed, s, N}
-use Rattle.rules.specs.Stages.{Run, run}
+use Rattle.rules.specs.Stages.{run, H, U, W}
 use Rattle.rules.specs.Formulas.{Free, Formula, terms, term, d, translated, group}
 use Rattle.rules.specs.Calls.{Check, Verdict, taken, verdict, translateVerdict, translateOf, translatedTo, translatedExponents, problemFits, formulaFits, buildOf}
 use Rattle.theory.proofs.MoreTests.{and-true, not-true}
 use Rattle.theory.proofs.MoreLists.{table, length-grid}
-use Rattle.theory.proofs.Accepted.{AllPass, unless-none, TermAccepted}
+use Rattle.theory.proofs.Accepted.{AllPass, unless-none, TermAccepted, exponents-small}
 use Rattle.theory.proofs.Sizes.{room-for-exponents}
+use Rattle.theory.proofs.Unique.{Alike}
 use Rattle.theory.proofs.Run.{run-right}
-use Rattle.theory.proofs.Translation.{translated-back, translated-only, free-of-groups}
+use Rattle.theory.proofs.Translation.{translated-back, translated-only, free-of-groups, ofGroups}
 use Rattle.scaling.specs.declared.BuildAnswer.{BuildAnswer}
 use Rattle.scaling.specs.declared.TranslateAnswer.{TranslateAnswer}
 use Rattle.scaling.specs.Answers.{Builds, Translates, RoomToTranslate, GoodFormula}
@@ -43,6 +45,8 @@ use Rattle.demands.proofs.Answers.{Accepted, width, build-answered}
 pub record FormulaTranslated (P : Problem) (f : Formula) (kept out : List ℤ) (a : TranslateAnswer) (kept₁ out₁ : List ℤ) : Type 0 where
   pub accepted : Accepted P
   pub formula : GoodFormula P f
+  pub room : RoomToTranslate kept out
+  pub free : (t : ℕ) → t < terms f → Free P (term P f t)
   -- "the translation returns d"
   pub groups : a .d ≡ N P - run P .rank
   -- "The coefficient is kept": all of them, in order, and what stands after them is untouched
@@ -74,3 +78,129 @@ module _ (P : Problem) (f : Formula) (kept out : List ℤ) where
           (unless-exactly outputs .1 room, (a .2, (a .3, (small, (rw (A .in-range), (terms-pass, tt)))))),
         ),
       )
+
+  accepted-of : AllPass (checksOfTranslate P f kept out)
+      → Accepted P × GoodFormula P f × RoomToTranslate kept out × ((t : ℕ) → t < terms f → TermAccepted P (run P) (term P f t))
+  accepted-of a =
+      let i = and-true (problemFits P) (formulaFits P f) (unless-none inputs (a .1 .0)) in
+      let fits = formula-fits-exactly P f .0 (i .1) in
+      let o = and-true (leb roomCoefficients (length kept)) (leb roomExponents (length out)) (unless-none outputs (a .1 .1 .0)) in
+      (
+        record {
+          well-formed = well-formed-exactly P .0 (unless-none (sizesInRange (P .m) (P .n)) (a .0), i .0, a .1 .1 .1 .0, a .1 .1 .1 .1 .0);
+          in-range = not-true (run P .state .over) (unless-none (not (run P .state .over)) (a .1 .1 .1 .1 .1 .1 .0));
+        },
+        record { few = fits .1; fits = fits .0; small = exponents-small (f .exponents) (a .1 .1 .1 .1 .1 .0) },
+        record { kept = leb-true roomCoefficients (length kept) (o .0); translated = leb-true roomExponents (length out) (o .1) },
+        all-terms-exactly P (run P) f .0 (a .1 .1 .1 .1 .1 .1 .1 .0),
+      )
+
+-- ---- "it is translated exactly if each term is free of dimension and no translated exponent passes 2,147,483,647 either way"
+module _ (P : Problem) (f : Formula) (kept out : List ℤ) (a : TranslateAnswer) (kept₁ out₁ : List ℤ)
+    (translates : Translates (translateOf P f kept out) a kept₁ out₁) where
+  pub translated-exactly : Accepted P → GoodFormula P f → RoomToTranslate kept out
+      → (a .number ≡ 0)
+      ↔ ((t : ℕ) → t < terms f → Free P (term P f t) × ((g : ℕ) → g < N P - run P .rank → natAbs (translated P (run P) (term P f t) g) ≤ M))
+  translated-exactly A G R =
+      let D = translate-ordered P f kept out a kept₁ out₁ translates in (
+        λ e. accepted-of P f kept out (D .accepts-exactly .0 e) .3,
+        λ h. D .accepts-exactly .1 (all-pass-of P f kept out A G R h),
+      )
+
+  as-taken : a .number ≡ 0 → Translates (translatedTo P f kept out taken) a kept₁ out₁
+  unfolding translateOf translateVerdict
+  as-taken e =
+      let p = translate-ordered P f kept out a kept₁ out₁ translates .accepts-exactly .0 e in
+      subst (λ (x : Verdict). Translates (translatedTo P f kept out x) a kept₁ out₁) (taken-exactly (checksOfTranslate P f kept out) .1 p) translates
+
+  -- "coefficients and order kept"
+  pub formula-translated : a .number ≡ 0 → FormulaTranslated P f kept out a kept₁ out₁
+  unfolding translatedExponents
+  formula-translated e =
+      let B = as-taken e in
+      let p = translate-ordered P f kept out a kept₁ out₁ translates .accepts-exactly .0 e in
+      let A = accepted-of P f kept out p in
+      let x : Matrix = λ t g. translated P (run P) (term P f t) g in
+      let l = length-grid (terms f) (d P (run P)) x in
+      record {
+        accepted = A .0;
+        formula = A .1;
+        room = A .2;
+        free = λ t i. A .3 t i .0;
+        groups = B .d;
+        coefficients = B .kept;
+        exponents = rw (B .d, B .translated) (table-filled (terms f) (d P (run P)) x out);
+        rest = rw (B .d, B .translated) (filled-keeps (terms f * d P (run P)) (translatedExponents P f) out l
+            (omega (arith, l, room-for-exponents P (limited-of (A .0 .well-formed)) (run-right P) f (A .1 .few), A .2 .translated)));
+      }
+
+-- ---- back: "Put each group's exponents back where the group stands"
+-- "The groups are the last d columns of V, cut to the quantity rows": the exponent of quantity j in group g, where the build left it
+abbrev pub groupIn : Problem → BuildAnswer → (v₁ : List ℤ) → (g j : ℕ) → ℤ
+groupIn P r v₁ g j = nth v₁ ((r .moduli + j) * width P r + (r .rank + g))
+
+-- the exponent of quantity j in the product of the groups to the exponents e
+abbrev pub backIn : Problem → BuildAnswer → (v₁ : List ℤ) → (groups : ℕ) → (e : ℕ → ℤ) → (j : ℕ) → ℤ
+backIn P r v₁ groups e j = sum groups (λ g. groupIn P r v₁ g j *ℤ e g)
+
+-- a build with the number 0
+module _ (P : Problem) (h v w : List ℤ) (r : BuildAnswer) (h₁ v₁ w₁ : List ℤ) (builds : Builds (buildOf P h v w) r h₁ v₁ w₁) (built : r .number ≡ 0) where
+  ends-alike : Alike (P .m) (width P r) (run P .rank) (r .rank) (H (run P)) (table (width P r) h₁) (U (run P)) (table (width P r) v₁)
+      (W (run P)) (table (width P r) w₁)
+  ends-alike = build-answered P h v w r h₁ v₁ w₁ builds built .only (run P .rank) (H (run P)) (U (run P)) (W (run P)) (run-right P)
+
+  moduli-are : r .moduli ≡ s P
+  moduli-are = build-answered P h v w r h₁ v₁ w₁ builds built .moduli
+
+  groups-are : width P r - r .rank ≡ d P (run P)
+  groups-are = omega (arith, moduli-are, ends-alike .ranks)
+
+  group-is : (g j : ℕ) → g < width P r - r .rank → j < P .n → groupIn P r v₁ g j ≡ group P (run P) g j
+  unfolding group
+  group-is g j b c =
+      sym (ends-alike .multipliers (r .moduli + j) (r .rank + g) (omega arith) (omega arith))
+      ∙ ap₂ (λ (i k : ℕ). U (run P) (i + j) (k + g)) moduli-are (sym (ends-alike .ranks))
+
+  back-is : (e e′ : ℕ → ℤ) → ((g : ℕ) → g < width P r - r .rank → e g ≡ e′ g) → (j : ℕ) → j < P .n
+      → backIn P r v₁ (width P r - r .rank) e j ≡ ofGroups P (run P) e′ j
+  back-is e e′ same j b =
+      sum-cong (width P r - r .rank) (λ g. groupIn P r v₁ g j *ℤ e g) (λ g. group P (run P) g j *ℤ e′ g)
+      (λ g c. ap₂ _*ℤ_ (group-is g j c b) (same g c))
+      ∙ ap (λ (k : ℕ). sum k (λ g. group P (run P) g j *ℤ e′ g)) groups-are
+
+  -- a monomial is free of dimension exactly when the groups to some whole exponents give it
+  pub free-exactly : (m : ℕ → ℤ)
+      → Free P m ↔ ((e : ℕ → ℤ) × ((j : ℕ) → j < P .n → backIn P r v₁ (width P r - r .rank) e j ≡ m j))
+  free-exactly m = (
+    λ F. (translated P (run P) m, λ j b. back-is (translated P (run P) m) (translated P (run P) m) (λ g _. refl) j b
+    ∙ translated-back P (run P) (run-right P) m F j b),
+    λ x. free-of-groups P (run P) (run-right P) m (x .0) (λ j b. sym (back-is (x .0) (x .0) (λ g _. refl) j b) ∙ x .1 j b),
+  )
+
+  -- and a formula translated with the number 0
+  module _ (f : Formula) (kept out : List ℤ) (a : TranslateAnswer) (kept₁ out₁ : List ℤ)
+      (translates : Translates (translateOf P f kept out) a kept₁ out₁) (done : a .number ≡ 0) where
+    -- there are d = N - r groups
+    pub as-many-groups : a .d ≡ width P r - r .rank
+    as-many-groups = formula-translated P f kept out a kept₁ out₁ translates done .groups ∙ sym groups-are
+
+    -- "and the first formula returns, term for term"
+    pub first-formula-returns : (t j : ℕ) → t < terms f → j < P .n
+        → backIn P r v₁ (a .d) (λ g. nth out₁ (t * a .d + g)) j ≡ nth (f .exponents) (t * P .n + j)
+    first-formula-returns t j i b =
+        let F = formula-translated P f kept out a kept₁ out₁ translates done in
+        ap (λ (k : ℕ). backIn P r v₁ k (λ g. nth out₁ (t * a .d + g)) j) as-many-groups
+        ∙ back-is (λ g. nth out₁ (t * a .d + g)) (translated P (run P) (term P f t)) (λ g c. F .exponents t g i (omega (arith, as-many-groups))) j b
+        ∙ translated-back P (run P) (run-right P) (term P f t) (F .free t i) j b
+
+    -- "No other whole exponents on the groups do that for any term."
+    pub no-other-exponents : (t : ℕ) → t < terms f → (e : ℕ → ℤ)
+        → ((j : ℕ) → j < P .n → backIn P r v₁ (a .d) e j ≡ nth (f .exponents) (t * P .n + j))
+        → (g : ℕ) → g < a .d → e g ≡ nth out₁ (t * a .d + g)
+    no-other-exponents t i e same g b =
+        let F = formula-translated P f kept out a kept₁ out₁ translates done in
+        let given : (j : ℕ) → j < P .n → ofGroups P (run P) e j ≡ term P f t j
+        = λ j c.
+        sym (back-is e e (λ g _. refl) j c) ∙ ap (λ (k : ℕ). backIn P r v₁ k e j) (sym as-many-groups) ∙ same j c in
+        translated-only P (run P) (run-right P) (term P f t) (F .accepted .well-formed .moduli) (F .free t i) e given g (omega (arith, F .groups))
+        ∙ sym (F .exponents t g i b)
