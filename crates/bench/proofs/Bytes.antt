@@ -44,7 +44,7 @@ four-set out at a b c d h =
     let g : at + 3 ≡ suc (suc (suc at)) = omega arith in
     rw (e, f, g) (sets-eq (a ∷ b ∷ c ∷ d ∷ []) out at (omega arith))
 
-length-bytes : (zs : List ℤ) → length (bytesOf zs) ≡ 4 * length zs
+pub length-bytes : (zs : List ℤ) → length (bytesOf zs) ≡ 4 * length zs
 unfolding bytesOf
 length-bytes [] = refl
 length-bytes (z ∷ zs) = omega (arith, length-bytes zs)
