@@ -106,7 +106,7 @@ module _ (P : Problem) (h v w : List ℤ) where
     its-place = rw o;
   }
 
-  accepted-of : AllPass (checksOfBuild P h v w) → Accepted P × RoomToBuild h v w
+  pub accepted-of : AllPass (checksOfBuild P h v w) → Accepted P × RoomToBuild h v w
   accepted-of a =
       let fits : PassesLimits P = (
         unless-none (sizesInRange (P .m) (P .n)) (a .0),

@@ -1,10 +1,10 @@
 -- "each number as four bytes, big-endian two's complement": what is written in bytes is read back, number for number, and what stands after it in the
 -- buffer is as it was. (bytesOf writes, numbersOf reads: rules/specs/Bytes.)
-use mathlib.Core.Path.{_≡_, refl, sym, _∙_, ap, ap₂}
-use mathlib.Core.Bool.{Bool}
+use mathlib.Core.Path.{_≡_, refl, sym, _∙_, ap, ap₂, subst}
+use mathlib.Core.Bool.{Bool, false}
 use mathlib.Core.List.{List, [], _∷_, _++_}
 use Prim.Native.Nat.{ℕ, zero, suc, _+_, _-_, _*_, _/_, _%_, _^_, _≤_, _<_}
-use native.Mathlib.Nat.{div-add-mod', div-div-eq-div-mul, mod-eq-of-lt}
+use native.Mathlib.Nat.{div-add-mod', div-div-eq-div-mul, div-lt-iff-lt-mul, mod-eq-of-lt, mod-lt}
 use native.Mathlib.Omega.{arith}
 use lib.ListN.{length, drop}
 use lib.Seq.{drop-drop}
@@ -13,11 +13,17 @@ use mir.Syntax.{w32}
 use mir.Val.{SFits, toZ, ofZ, sel}
 use mir.Facts.{fits-ofZ, toZ-ofZ}
 use Rattle.whole.specs.Lists.{nth}
+use Rattle.whole.specs.Matrix.{Matrix}
 use Rattle.whole.proofs.Tests.{Test, pass, fail, lt?}
 use Rattle.whole.proofs.Order.{fits}
 use Rattle.rules.specs.Limits.{M}
 use Rattle.rules.specs.Bytes.{byteAt, long, longs, fourBytes, bytesOf, numbersIn, numbersOf}
-use Rattle.rules.specs.Calls.{filled}
+use Rattle.rules.specs.Problem.{Problem, WellFormed, N}
+use Rattle.rules.specs.Steps.{onT, onV}
+use Rattle.rules.specs.Stages.{run, H, U, W}
+use Rattle.rules.specs.Calls.{filled, grid, contentsH, contentsV, contentsW}
+use Rattle.theory.proofs.MoreLists.{table-grid, length-grid}
+use Rattle.theory.proofs.RunRange.{Moderate, run-entries, run-entriesW}
 use Rattle.bench.proofs.Bytes.{length-bytes}
 use Rattle.demands.proofs.Buffers.{KeepsRest, filled-keeps}
 
@@ -104,3 +110,33 @@ longs-fit (suc count) bs (suc i) l = longs-fit count (drop 4 bs) i (omega arith)
 
 pub numbers-fit : (bs : List ℕ) → AllFit (numbersOf bs)
 numbers-fit bs = longs-fit (numbersIn bs) bs
+
+-- ---- what is written has 32 bits
+pub grid-fits : (m n : ℕ) (A : Matrix) → ((i j : ℕ) → i < m → j < n → natAbs (A i j) ≤ M) → AllFit (grid m n A)
+grid-fits m zero A h k l = absurd (omega (arith, length-grid m zero A))
+grid-fits m (suc n) A h k l =
+    let i = k / suc n in
+    let j = k % suc n in
+    let b : j < suc n = mod-lt k (omega arith) in
+    let a : i < m = div-lt-iff-lt-mul {k = suc n} {x = k} {y = m} (omega arith) .1 (omega (arith, length-grid m (suc n) A)) in
+    within-fits (subst (λ (k : ℕ). natAbs (nth (grid m (suc n) A) k) ≤ M) (div-add-mod' k (suc n)) (rw (table-grid m (suc n) A i j a b) (h i j a b)))
+
+-- the entries of an accepted build
+moderate : {P : Problem} → WellFormed P → Moderate P
+moderate {P} F = record {
+  entries = λ i j a b. omega (arith, F .entries (i * P .n + j));
+  moduli = λ i a. omega (arith, F .moduli-high i);
+}
+
+module _ (P : Problem) (F : WellFormed P) (o : run P .state .over ≡ false) where
+  pub H-fits : AllFit (contentsH P)
+  unfolding contentsH
+  H-fits = grid-fits (P .m) (N P) (H (run P)) (λ i j _ _. run-entries P (moderate F) o onT i j)
+
+  pub V-fits : AllFit (contentsV P)
+  unfolding contentsV
+  V-fits = grid-fits (N P) (N P) (U (run P)) (λ i j _ _. run-entries P (moderate F) o onV i j)
+
+  pub W-fits : AllFit (contentsW P)
+  unfolding contentsW
+  W-fits = grid-fits (N P) (N P) (W (run P)) (λ i j _ _. run-entriesW P (moderate F) o i j)

@@ -79,9 +79,9 @@ module _ (P : Problem) (f : Formula) (kept out : List ℤ) where
         ),
       )
 
-  accepted-of : AllPass (checksOfTranslate P f kept out)
+  pub translated-of : AllPass (checksOfTranslate P f kept out)
       → Accepted P × GoodFormula P f × RoomToTranslate kept out × ((t : ℕ) → t < terms f → TermAccepted P (run P) (term P f t))
-  accepted-of a =
+  translated-of a =
       let i = and-true (problemFits P) (formulaFits P f) (unless-none inputs (a .1 .0)) in
       let fits = formula-fits-exactly P f .0 (i .1) in
       let o = and-true (leb roomCoefficients (length kept)) (leb roomExponents (length out)) (unless-none outputs (a .1 .1 .0)) in
@@ -103,7 +103,7 @@ module _ (P : Problem) (f : Formula) (kept out : List ℤ) (a : TranslateAnswer)
       ↔ ((t : ℕ) → t < terms f → Free P (term P f t) × ((g : ℕ) → g < N P - run P .rank → natAbs (translated P (run P) (term P f t) g) ≤ M))
   translated-exactly A G R =
       let D = translate-ordered P f kept out a kept₁ out₁ translates in (
-        λ e. accepted-of P f kept out (D .accepts-exactly .0 e) .3,
+        λ e. translated-of P f kept out (D .accepts-exactly .0 e) .3,
         λ h. D .accepts-exactly .1 (all-pass-of P f kept out A G R h),
       )
 
@@ -119,7 +119,7 @@ module _ (P : Problem) (f : Formula) (kept out : List ℤ) (a : TranslateAnswer)
   formula-translated e =
       let B = as-taken e in
       let p = translate-ordered P f kept out a kept₁ out₁ translates .accepts-exactly .0 e in
-      let A = accepted-of P f kept out p in
+      let A = translated-of P f kept out p in
       let x : Matrix = λ t g. translated P (run P) (term P f t) g in
       let l = length-grid (terms f) (d P (run P)) x in
       record {

@@ -1,0 +1,192 @@
+-- The demands of the two calls "on numbers and byte slices" (document 01, "What the work covers"): glaukemis_build and glaukemis_translate.
+-- Demand 1 of the bytes; and a call whose byte lengths are multiples of four does to the numbers that the bytes are (numbersOf of rules/specs/Bytes)
+-- what `build` and `translate` promise, so that demands 2 and 3 hold of those numbers.
+--
+-- `promise` is what the call's `ensures` says, whatever m, n and the lent bytes are; the bytes before the call are h, v, w, and h₁, v₁, w₁ after it.
+use mathlib.Core.Path.{_≡_, refl, sym, _∙_, ap, ap₂, subst}
+use mathlib.Core.Logic.{_≢_, _↔_, _⊎_, inl, inr}
+use mathlib.Core.Bool.{Bool, true, false, _&&_}
+use mathlib.Core.List.{List, _++_}
+use Prim.Native.Nat.{ℕ, _+_, _-_, _*_, _/_, _%_, _≤_, _<_}
+use native.Mathlib.Omega.{arith}
+use lib.Dec.{leb}
+use lib.ListN.{length}
+use lib.IntN.{ℤ}
+use borrow.Author.Tests.{eqb-true, eq-eqb}
+use Rattle.rules.specs.Limits.{roomH, roomV, roomW, roomCoefficients, roomExponents}
+use Rattle.rules.specs.Problem.{Problem, WellFormed, N, columns}
+use Rattle.rules.specs.Stages.{run}
+use Rattle.rules.specs.Steps.{start}
+use Rattle.rules.specs.Formulas.{Formula, terms, term}
+use Rattle.rules.specs.Calls.{Check, Verdict, taken, refused, verdict, buildVerdict, translateVerdict, problemFits, formulaFits}
+use Rattle.rules.specs.Calls.{buildReply, translateReply, lentAfter, contentsH, contentsV, contentsW, buildOf, built, translateOf, translatedTo, translatedExponents}
+use Rattle.rules.specs.Bytes.{bytesOf, wholeNumbers, numbersIn, numbersOf}
+use Rattle.rules.specs.Bench.{problemOf, formulaOf, hasRoom, benchBuildVerdict, benchBuildOf, BenchBuilt, benchTranslateVerdict, benchTranslateOf, BenchTranslated}
+use Rattle.theory.proofs.MoreTests.{and-true}
+use Rattle.theory.proofs.Accepted.{AllPass, unless-none}
+use Rattle.theory.proofs.Sizes.{room-for-H, room-for-V, room-for-W, room-for-exponents}
+use Rattle.theory.proofs.Run.{run-right, run-steps}
+use Rattle.theory.proofs.Sequence.{Steps, written}
+use Rattle.theory.proofs.Flag.{SomeBeyond}
+use Rattle.scaling.specs.declared.BuildAnswer.{BuildAnswer}
+use Rattle.scaling.specs.declared.TranslateAnswer.{TranslateAnswer}
+use Rattle.scaling.specs.Answers as scaling
+use Rattle.scaling.specs.Answers.{RoomToBuild, RoomToTranslate, GoodFormula}
+use Rattle.bench.specs.Answers.{Builds, Translates}
+use Rattle.bench.proofs.Bytes.{length-longs}
+use Rattle.demands.proofs.Order.{DecidedBy, taken-exactly, refused-exactly, buildChecks, build-not-0, translateChecks, translate-not-0}
+use Rattle.demands.proofs.Limits.{limited-of}
+use Rattle.demands.proofs.Refusals.{Ordered, ordered, BuildRefused, TranslateRefused, checksOfBuild, checksOfTranslate}
+use Rattle.demands.proofs.Buffers.{KeepsRest}
+use Rattle.demands.proofs.Answers.{Accepted, Answered, width, accepted-of, build-answered, range-exactly, range-exactly-by, taken-or-range}
+use Rattle.demands.proofs.Formulas.{translated-of}
+use Rattle.demands.proofs.Bytes.{numbers-filled, bytes-keep, numbers-fit, H-fits, V-fits, W-fits}
+
+-- ---- glaukemis_build: demand 1
+-- its checks: "those two calls refuse a byte length that is no multiple of four as a length fault (2 for an input, 3 for an output)"
+abbrev pub inputsOfCBuild : (m n : ℕ) (matrix moduli : List ℕ) → Bool
+inputsOfCBuild m n matrix moduli = wholeNumbers matrix && wholeNumbers moduli && problemFits (problemOf m n matrix moduli)
+
+abbrev pub outputsOfCBuild : (h v w : List ℕ) → Bool
+outputsOfCBuild h v w = hasRoom roomH h && hasRoom roomV v && hasRoom roomW w
+
+abbrev pub checksOfCBuild : (m n : ℕ) (matrix moduli h v w : List ℕ) → List Check
+checksOfCBuild m n matrix moduli h v w = buildChecks (problemOf m n matrix moduli) (inputsOfCBuild m n matrix moduli) (outputsOfCBuild h v w)
+
+-- what the call is by its verdict
+abbrev benchBuilt : Problem → (h v w : List ℕ) → Verdict → BenchBuilt
+benchBuilt P h v w x = record {
+  answer = buildReply P x;
+  h = lentAfter x (bytesOf (contentsH P)) h;
+  v = lentAfter x (bytesOf (contentsV P)) v;
+  w = lentAfter x (bytesOf (contentsW P)) w;
+}
+
+module _ (m n : ℕ) (matrix moduli h v w : List ℕ) (r : BuildAnswer) (h₁ v₁ w₁ : List ℕ) where
+  abbrev cBuildChecks : List Check
+  cBuildChecks = checksOfCBuild m n matrix moduli h v w
+
+  by-verdict : Builds (benchBuildOf m n matrix moduli h v w) r h₁ v₁ w₁
+      → Builds (benchBuilt (problemOf m n matrix moduli) h v w (verdict cBuildChecks)) r h₁ v₁ w₁
+  unfolding benchBuildOf benchBuildVerdict buildVerdict
+  by-verdict promise = promise
+
+  pub c-build-ordered : Builds (benchBuildOf m n matrix moduli h v w) r h₁ v₁ w₁
+      → Ordered (checksOfCBuild m n matrix moduli h v w) (r .number) (r .place) (BuildRefused (checksOfCBuild m n matrix moduli h v w) h v w r h₁ v₁ w₁)
+  c-build-ordered promise =
+      ordered cBuildChecks (r .number) (r .place) (BuildRefused cBuildChecks h v w r h₁ v₁ w₁) (λ R. R .decided)
+      (build-not-0 (problemOf m n matrix moduli) (inputsOfCBuild m n matrix moduli) (outputsOfCBuild h v w))
+      (go (verdict cBuildChecks) refl (by-verdict promise))
+    where
+      go : (x : Verdict) → verdict cBuildChecks ≡ x → Builds (benchBuilt (problemOf m n matrix moduli) h v w x) r h₁ v₁ w₁
+          → (AllPass cBuildChecks × (r .number ≡ 0) × (r .place ≡ 0)) ⊎ BuildRefused cBuildChecks h v w r h₁ v₁ w₁
+      go taken e B = inl (taken-exactly cBuildChecks .0 e, B .number, B .place)
+      go (refused number place) e B = inr (record {
+        decided = refused-exactly cBuildChecks (r .number) (r .place) .0 (rw (B .number, B .place) e);
+        rank = B .rank;
+        moduli = B .moduli;
+        steps = B .steps;
+        h-held = B .h;
+        v-held = B .v;
+        w-held = B .w;
+      })
+
+-- ---- the same call on the numbers
+-- every byte length is a multiple of four
+pub record WholeToBuild (matrix moduli h v w : List ℕ) : Type 0 where
+  pub matrix-whole : length matrix % 4 ≡ 0
+  pub moduli-whole : length moduli % 4 ≡ 0
+  pub h-whole : length h % 4 ≡ 0
+  pub v-whole : length v % 4 ≡ 0
+  pub w-whole : length w % 4 ≡ 0
+
+-- room for so many numbers in whole bytes
+room-same : (room : ℕ) (bs : List ℕ) → length bs % 4 ≡ 0 → hasRoom room bs ≡ leb room (length (numbersOf bs))
+room-same room bs e = ap (λ (b : Bool). b && leb room (numbersIn bs)) (eq-eqb (length bs % 4) 0 e) ∙ ap (leb room) (sym (length-longs (numbersIn bs) bs))
+
+whole-of : (room : ℕ) (bs : List ℕ) → hasRoom room bs ≡ true → length bs % 4 ≡ 0
+whole-of room bs e = eqb-true (length bs % 4) 0 (and-true (wholeNumbers bs) (leb room (numbersIn bs)) e .0)
+
+module _ (m n : ℕ) (matrix moduli h v w : List ℕ) (r : BuildAnswer) (h₁ v₁ w₁ : List ℕ)
+    (promise : Builds (benchBuildOf m n matrix moduli h v w) r h₁ v₁ w₁) where
+  abbrev P : Problem
+  P = problemOf m n matrix moduli
+
+  verdict-same : WholeToBuild matrix moduli h v w
+      → verdict (checksOfCBuild m n matrix moduli h v w) ≡ verdict (checksOfBuild P (numbersOf h) (numbersOf v) (numbersOf w))
+  verdict-same F =
+      let i : inputsOfCBuild m n matrix moduli ≡ problemFits P
+      = ap₂ (λ (a b : Bool). a && b && problemFits P) (eq-eqb (length matrix % 4) 0 (F .matrix-whole)) (eq-eqb (length moduli % 4) 0 (F .moduli-whole)) in
+      let o : outputsOfCBuild h v w ≡ leb roomH (length (numbersOf h)) && leb roomV (length (numbersOf v)) && leb roomW (length (numbersOf w))
+      = ap₂ _&&_ (ap₂ _&&_ (room-same roomH h (F .h-whole)) (room-same roomV v (F .v-whole))) (room-same roomW w (F .w-whole)) in
+      ap₂ (λ (a b : Bool). verdict (buildChecks P a b)) i o
+
+  -- a call whose byte lengths are multiples of four is the call `build` on the numbers that the bytes are
+  pub c-build-is-build : WholeToBuild matrix moduli h v w
+      → scaling.Builds (buildOf (problemOf m n matrix moduli) (numbersOf h) (numbersOf v) (numbersOf w)) r (numbersOf h₁) (numbersOf v₁) (numbersOf w₁)
+  unfolding buildOf buildVerdict
+  c-build-is-build F =
+      go (verdict checks) refl
+      (subst (λ (x : Verdict). Builds (benchBuilt P h v w x) r h₁ v₁ w₁) (verdict-same F) (by-verdict m n matrix moduli h v w r h₁ v₁ w₁ promise))
+    where
+      checks : List Check
+      checks = checksOfBuild P (numbersOf h) (numbersOf v) (numbersOf w)
+
+      go : (x : Verdict) → verdict checks ≡ x → Builds (benchBuilt P h v w x) r h₁ v₁ w₁
+          → scaling.Builds (built P (numbersOf h) (numbersOf v) (numbersOf w) x) r (numbersOf h₁) (numbersOf v₁) (numbersOf w₁)
+      go taken e B =
+          let A = accepted-of P (numbersOf h) (numbersOf v) (numbersOf w) (taken-exactly checks .0 e) in
+          let G = A .0 .well-formed in
+          let o = A .0 .in-range in
+          let L = limited-of G in
+          let lh = length-longs (numbersIn h) h in
+          let lv = length-longs (numbersIn v) v in
+          let lw = length-longs (numbersIn w) w in
+          record {
+            number = B .number;
+            place = B .place;
+            rank = B .rank;
+            moduli = B .moduli;
+            steps = B .steps;
+            h = ap numbersOf (B .h) ∙ numbers-filled (contentsH P) h (H-fits P G o) (omega (arith, room-for-H P L, A .1 .h, lh));
+            v = ap numbersOf (B .v) ∙ numbers-filled (contentsV P) v (V-fits P G o) (omega (arith, room-for-V P L, A .1 .v, lv));
+            w = ap numbersOf (B .w) ∙ numbers-filled (contentsW P) w (W-fits P G o) (omega (arith, room-for-W P L, A .1 .w, lw));
+          }
+      go (refused number place) e B = record {
+        number = B .number;
+        place = B .place;
+        rank = B .rank;
+        moduli = B .moduli;
+        steps = B .steps;
+        h = ap numbersOf (B .h);
+        v = ap numbersOf (B .v);
+        w = ap numbersOf (B .w);
+      }
+
+  -- an accepted call's byte lengths are multiples of four
+  pub c-build-whole : r .number ≡ 0 → WholeToBuild matrix moduli h v w
+  c-build-whole e =
+      let a = c-build-ordered m n matrix moduli h v w r h₁ v₁ w₁ promise .accepts-exactly .0 e in
+      let i = and-true (wholeNumbers matrix && wholeNumbers moduli) (problemFits P) (unless-none (inputsOfCBuild m n matrix moduli) (a .1 .0)) in
+      let j = and-true (wholeNumbers matrix) (wholeNumbers moduli) (i .0) in
+      let o = and-true (hasRoom roomH h && hasRoom roomV v) (hasRoom roomW w) (unless-none (outputsOfCBuild h v w) (a .1 .1 .0)) in
+      let q = and-true (hasRoom roomH h) (hasRoom roomV v) (o .0) in
+      record {
+        matrix-whole = eqb-true (length matrix % 4) 0 (j .0);
+        moduli-whole = eqb-true (length moduli % 4) 0 (j .1);
+        h-whole = whole-of roomH h (q .0);
+        v-whole = whole-of roomV v (q .1);
+        w-whole = whole-of roomW w (o .1);
+      }
+
+  -- demand 2: what an accepted problem yields, in the numbers that the bytes are, and every byte after them untouched
+  pub c-build-answered : r .number ≡ 0
+      → Answered (problemOf m n matrix moduli) (numbersOf h) (numbersOf v) (numbersOf w) r (numbersOf h₁) (numbersOf v₁) (numbersOf w₁)
+  c-build-answered e =
+      build-answered P (numbersOf h) (numbersOf v) (numbersOf w) r (numbersOf h₁) (numbersOf v₁) (numbersOf w₁) (c-build-is-build (c-build-whole e)) e
+
+  -- demand 2, range
+  pub c-range-exactly : WholeToBuild matrix moduli h v w → WellFormed (problemOf m n matrix moduli) → RoomToBuild (numbersOf h) (numbersOf v) (numbersOf w)
+      → (r .number ≡ 7) ↔ SomeBeyond (written (run-steps (problemOf m n matrix moduli)))
+  c-range-exactly F G R =
+      range-exactly P (numbersOf h) (numbersOf v) (numbersOf w) r (numbersOf h₁) (numbersOf v₁) (numbersOf w₁) (c-build-is-build F) G R
