@@ -27,7 +27,7 @@ use Rattle.rules.specs.Formulas.{Free, Formula, terms, term, d, translated, gro
 use Rattle.rules.specs.Calls.{Check, Verdict, taken, verdict, translateVerdict, translateOf, translatedTo, translatedExponents, problemFits, formulaFits, buildOf}
 use Rattle.theory.proofs.MoreTests.{and-true, not-true}
 use Rattle.theory.proofs.MoreLists.{table, length-grid}
-use Rattle.theory.proofs.Accepted.{AllPass, unless-none, TermAccepted, exponents-small}
+use Rattle.theory.proofs.Accepted.{AllPass, unless-none, exponents-small}
 use Rattle.theory.proofs.Sizes.{room-for-exponents}
 use Rattle.theory.proofs.Unique.{Alike}
 use Rattle.theory.proofs.Run.{run-right}
@@ -40,6 +40,10 @@ use Rattle.demands.proofs.Limits.{PassesLimits, well-formed-exactly, fo
 use Rattle.demands.proofs.Refusals.{checksOfTranslate, translate-ordered}
 use Rattle.demands.proofs.Buffers.{KeepsRest, filled-keeps, table-filled}
 use Rattle.demands.proofs.Answers.{Accepted, width, build-answered}
+
+-- ---- "free of dimension and no translated exponent passes 2,147,483,647 either way"; there are d = N - r of them
+abbrev pub Translatable : Problem → (ℕ → ℤ) → Type 0
+Translatable P v = Free P v × ((g : ℕ) → g < N P - run P .rank → natAbs (translated P (run P) v g) ≤ M)
 
 -- ---- what a translated formula is, in the lent buffers
 pub record FormulaTranslated (P : Problem) (f : Formula) (kept out : List ℤ) (a : TranslateAnswer) (kept₁ out₁ : List ℤ) : Type 0 where
@@ -64,7 +68,7 @@ module _ (P : Problem) (f : Formula) (kept out : List ℤ) where
   outputs = leb roomCoefficients (length kept) && leb roomExponents (length out)
 
   all-pass-of : Accepted P → GoodFormula P f → RoomToTranslate kept out
-      → ((t : ℕ) → t < terms f → TermAccepted P (run P) (term P f t)) → AllPass (checksOfTranslate P f kept out)
+      → ((t : ℕ) → t < terms f → Translatable P (term P f t)) → AllPass (checksOfTranslate P f kept out)
   all-pass-of A G R h =
       let a = well-formed-exactly P .1 (A .well-formed) in
       let fits : inputs ≡ true = rw (a .1, formula-fits-exactly P f .1 (G .fits, G .few)) in
@@ -80,7 +84,7 @@ module _ (P : Problem) (f : Formula) (kept out : List ℤ) where
       )
 
   pub translated-of : AllPass (checksOfTranslate P f kept out)
-      → Accepted P × GoodFormula P f × RoomToTranslate kept out × ((t : ℕ) → t < terms f → TermAccepted P (run P) (term P f t))
+      → Accepted P × GoodFormula P f × RoomToTranslate kept out × ((t : ℕ) → t < terms f → Translatable P (term P f t))
   translated-of a =
       let i = and-true (problemFits P) (formulaFits P f) (unless-none inputs (a .1 .0)) in
       let fits = formula-fits-exactly P f .0 (i .1) in
@@ -100,7 +104,7 @@ module _ (P : Problem) (f : Formula) (kept out : List ℤ) (a : TranslateAnswer)
     (translates : Translates (translateOf P f kept out) a kept₁ out₁) where
   pub translated-exactly : Accepted P → GoodFormula P f → RoomToTranslate kept out
       → (a .number ≡ 0)
-      ↔ ((t : ℕ) → t < terms f → Free P (term P f t) × ((g : ℕ) → g < N P - run P .rank → natAbs (translated P (run P) (term P f t) g) ≤ M))
+      ↔ ((t : ℕ) → t < terms f → Translatable P (term P f t))
   translated-exactly A G R =
       let D = translate-ordered P f kept out a kept₁ out₁ translates in (
         λ e. translated-of P f kept out (D .accepts-exactly .0 e) .3,

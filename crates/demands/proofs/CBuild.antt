@@ -1,46 +1,42 @@
--- The demands of the two calls "on numbers and byte slices" (document 01, "What the work covers"): glaukemis_build and glaukemis_translate.
--- Demand 1 of the bytes; and a call whose byte lengths are multiples of four does to the numbers that the bytes are (numbersOf of rules/specs/Bytes)
--- what `build` and `translate` promise, so that demands 2 and 3 hold of those numbers.
+-- Demands 1 and 2 of glaukemis_build, "on numbers and byte slices" (document 01, "What the work covers").
+-- Demand 1 is of the bytes. A call whose byte lengths are multiples of four does to the numbers that the bytes are (numbersOf of rules/specs/Bytes) what
+-- `build` promises, so that demand 2 is of those numbers.
 --
 -- `promise` is what the call's `ensures` says, whatever m, n and the lent bytes are; the bytes before the call are h, v, w, and h₁, v₁, w₁ after it.
 use mathlib.Core.Path.{_≡_, refl, sym, _∙_, ap, ap₂, subst}
-use mathlib.Core.Logic.{_≢_, _↔_, _⊎_, inl, inr}
-use mathlib.Core.Bool.{Bool, true, false, _&&_}
-use mathlib.Core.List.{List, _++_}
-use Prim.Native.Nat.{ℕ, _+_, _-_, _*_, _/_, _%_, _≤_, _<_}
+use mathlib.Core.Logic.{_↔_, _⊎_, inl, inr}
+use mathlib.Core.Bool.{Bool, true, _&&_}
+use mathlib.Core.List.{List}
+use Prim.Native.Nat.{ℕ, _+_, _*_, _%_}
 use native.Mathlib.Omega.{arith}
 use lib.Dec.{leb}
 use lib.ListN.{length}
-use lib.IntN.{ℤ}
 use borrow.Author.Tests.{eqb-true, eq-eqb}
-use Rattle.rules.specs.Limits.{roomH, roomV, roomW, roomCoefficients, roomExponents}
-use Rattle.rules.specs.Problem.{Problem, WellFormed, N, columns}
-use Rattle.rules.specs.Stages.{run}
-use Rattle.rules.specs.Steps.{start}
-use Rattle.rules.specs.Formulas.{Formula, terms, term}
-use Rattle.rules.specs.Calls.{Check, Verdict, taken, refused, verdict, buildVerdict, translateVerdict, problemFits, formulaFits}
-use Rattle.rules.specs.Calls.{buildReply, translateReply, lentAfter, contentsH, contentsV, contentsW, buildOf, built, translateOf, translatedTo, translatedExponents}
+use Rattle.rules.specs.Limits.{roomH, roomV, roomW}
+use Rattle.rules.specs.Problem.{Problem, WellFormed, N}
+use Rattle.rules.specs.Stages.{run, H, U, W}
+use Rattle.rules.specs.Calls.{Check, Verdict, taken, refused, verdict, buildVerdict, problemFits}
+use Rattle.rules.specs.Calls.{buildReply, lentAfter, contentsH, contentsV, contentsW, buildOf, built}
 use Rattle.rules.specs.Bytes.{bytesOf, wholeNumbers, numbersIn, numbersOf}
-use Rattle.rules.specs.Bench.{problemOf, formulaOf, hasRoom, benchBuildVerdict, benchBuildOf, BenchBuilt, benchTranslateVerdict, benchTranslateOf, BenchTranslated}
+use Rattle.rules.specs.Bench.{problemOf, hasRoom, benchBuildVerdict, benchBuildOf, BenchBuilt}
 use Rattle.theory.proofs.MoreTests.{and-true}
+use Rattle.theory.proofs.MoreLists.{length-grid}
 use Rattle.theory.proofs.Accepted.{AllPass, unless-none}
-use Rattle.theory.proofs.Sizes.{room-for-H, room-for-V, room-for-W, room-for-exponents}
-use Rattle.theory.proofs.Run.{run-right, run-steps}
-use Rattle.theory.proofs.Sequence.{Steps, written}
+use Rattle.theory.proofs.Sizes.{room-for-H, room-for-V, room-for-W}
+use Rattle.theory.proofs.Run.{run-steps}
+use Rattle.theory.proofs.Sequence.{written}
 use Rattle.theory.proofs.Flag.{SomeBeyond}
 use Rattle.scaling.specs.declared.BuildAnswer.{BuildAnswer}
-use Rattle.scaling.specs.declared.TranslateAnswer.{TranslateAnswer}
 use Rattle.scaling.specs.Answers as scaling
-use Rattle.scaling.specs.Answers.{RoomToBuild, RoomToTranslate, GoodFormula}
-use Rattle.bench.specs.Answers.{Builds, Translates}
+use Rattle.scaling.specs.Answers.{RoomToBuild}
+use Rattle.bench.specs.Answers.{Builds}
 use Rattle.bench.proofs.Bytes.{length-longs}
-use Rattle.demands.proofs.Order.{DecidedBy, taken-exactly, refused-exactly, buildChecks, build-not-0, translateChecks, translate-not-0}
+use Rattle.demands.proofs.Order.{taken-exactly, refused-exactly, buildChecks, build-not-0}
 use Rattle.demands.proofs.Limits.{limited-of}
-use Rattle.demands.proofs.Refusals.{Ordered, ordered, BuildRefused, TranslateRefused, checksOfBuild, checksOfTranslate}
+use Rattle.demands.proofs.Refusals.{Ordered, ordered, BuildRefused, checksOfBuild}
 use Rattle.demands.proofs.Buffers.{KeepsRest}
-use Rattle.demands.proofs.Answers.{Accepted, Answered, width, accepted-of, build-answered, range-exactly, range-exactly-by, taken-or-range}
-use Rattle.demands.proofs.Formulas.{translated-of}
-use Rattle.demands.proofs.Bytes.{numbers-filled, bytes-keep, numbers-fit, H-fits, V-fits, W-fits}
+use Rattle.demands.proofs.Answers.{Answered, width, accepted-of, build-accepted-exactly, build-answered, range-exactly, taken-or-range}
+use Rattle.demands.proofs.Bytes.{numbers-filled, bytes-keep, H-fits, V-fits, W-fits}
 
 -- ---- glaukemis_build: demand 1
 -- its checks: "those two calls refuse a byte length that is no multiple of four as a length fault (2 for an input, 3 for an output)"
@@ -100,11 +96,17 @@ pub record WholeToBuild (matrix moduli h v w : List ℕ) : Type 0 where
   pub v-whole : length v % 4 ≡ 0
   pub w-whole : length w % 4 ≡ 0
 
+-- the bytes after the first m·N, N·N and N·N numbers are as they were
+pub record BytesKept (P : Problem) (h v w : List ℕ) (r : BuildAnswer) (h₁ v₁ w₁ : List ℕ) : Type 0 where
+  pub rest-of-h : KeepsRest (4 * (P .m * width P r)) h h₁
+  pub rest-of-v : KeepsRest (4 * (width P r * width P r)) v v₁
+  pub rest-of-w : KeepsRest (4 * (width P r * width P r)) w w₁
+
 -- room for so many numbers in whole bytes
-room-same : (room : ℕ) (bs : List ℕ) → length bs % 4 ≡ 0 → hasRoom room bs ≡ leb room (length (numbersOf bs))
+pub room-same : (room : ℕ) (bs : List ℕ) → length bs % 4 ≡ 0 → hasRoom room bs ≡ leb room (length (numbersOf bs))
 room-same room bs e = ap (λ (b : Bool). b && leb room (numbersIn bs)) (eq-eqb (length bs % 4) 0 e) ∙ ap (leb room) (sym (length-longs (numbersIn bs) bs))
 
-whole-of : (room : ℕ) (bs : List ℕ) → hasRoom room bs ≡ true → length bs % 4 ≡ 0
+pub whole-of : (room : ℕ) (bs : List ℕ) → hasRoom room bs ≡ true → length bs % 4 ≡ 0
 whole-of room bs e = eqb-true (length bs % 4) 0 (and-true (wholeNumbers bs) (leb room (numbersIn bs)) e .0)
 
 module _ (m n : ℕ) (matrix moduli h v w : List ℕ) (r : BuildAnswer) (h₁ v₁ w₁ : List ℕ)
@@ -179,14 +181,42 @@ module _ (m n : ℕ) (matrix moduli h v w : List ℕ) (r : BuildAnswer) (h₁ v�
         w-whole = whole-of roomW w (o .1);
       }
 
-  -- demand 2: what an accepted problem yields, in the numbers that the bytes are, and every byte after them untouched
+  -- demand 2: "An accepted problem yields ..", in the numbers that the bytes are
   pub c-build-answered : r .number ≡ 0
       → Answered (problemOf m n matrix moduli) (numbersOf h) (numbersOf v) (numbersOf w) r (numbersOf h₁) (numbersOf v₁) (numbersOf w₁)
   c-build-answered e =
       build-answered P (numbersOf h) (numbersOf v) (numbersOf w) r (numbersOf h₁) (numbersOf v₁) (numbersOf w₁) (c-build-is-build (c-build-whole e)) e
 
-  -- demand 2, range
+  -- and every byte after those numbers is untouched
+  pub c-build-rest : r .number ≡ 0 → BytesKept (problemOf m n matrix moduli) h v w r h₁ v₁ w₁
+  unfolding contentsH contentsV contentsW
+  c-build-rest e =
+      let a = c-build-ordered m n matrix moduli h v w r h₁ v₁ w₁ promise .accepts-exactly .0 e in
+      let B = subst (λ (x : Verdict). Builds (benchBuilt P h v w x) r h₁ v₁ w₁) (taken-exactly (checksOfCBuild m n matrix moduli h v w) .1 a)
+      (by-verdict m n matrix moduli h v w r h₁ v₁ w₁ promise) in
+      let A = build-accepted-exactly P (numbersOf h) (numbersOf v) (numbersOf w) r (numbersOf h₁) (numbersOf v₁) (numbersOf w₁)
+      (c-build-is-build (c-build-whole e)) .0 e in
+      let L = limited-of (A .0 .well-formed) in
+      let k : width P r ≡ N P = ap (λ (i : ℕ). n + i) (B .moduli) in
+      let lH = length-grid m (N P) (H (run P)) in
+      let lV = length-grid (N P) (N P) (U (run P)) in
+      let lW = length-grid (N P) (N P) (W (run P)) in
+      record {
+        rest-of-h = rw (k, B .h) (bytes-keep (m * N P) (contentsH P) h lH
+            (omega (arith, lH, room-for-H P L, A .1 .h, length-longs (numbersIn h) h)));
+        rest-of-v = rw (k, B .v) (bytes-keep (N P * N P) (contentsV P) v lV
+            (omega (arith, lV, room-for-V P L, A .1 .v, length-longs (numbersIn v) v)));
+        rest-of-w = rw (k, B .w) (bytes-keep (N P * N P) (contentsW P) w lW
+            (omega (arith, lW, room-for-W P L, A .1 .w, length-longs (numbersIn w) w)));
+      }
+
+  -- demand 2, range: "refused for range exactly when the written steps .. write one beyond 2,147,483,647 either way", else taken
   pub c-range-exactly : WholeToBuild matrix moduli h v w → WellFormed (problemOf m n matrix moduli) → RoomToBuild (numbersOf h) (numbersOf v) (numbersOf w)
       → (r .number ≡ 7) ↔ SomeBeyond (written (run-steps (problemOf m n matrix moduli)))
   c-range-exactly F G R =
       range-exactly P (numbersOf h) (numbersOf v) (numbersOf w) r (numbersOf h₁) (numbersOf v₁) (numbersOf w₁) (c-build-is-build F) G R
+
+  pub c-taken-or-range : WholeToBuild matrix moduli h v w → WellFormed (problemOf m n matrix moduli) → RoomToBuild (numbersOf h) (numbersOf v) (numbersOf w)
+      → (r .number ≡ 0) ⊎ (r .number ≡ 7)
+  c-taken-or-range F G R =
+      taken-or-range P (numbersOf h) (numbersOf v) (numbersOf w) r (numbersOf h₁) (numbersOf v₁) (numbersOf w₁) (c-build-is-build F) G R
