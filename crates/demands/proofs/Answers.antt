@@ -83,8 +83,7 @@ module _ (P : Problem) (h v w : List ℤ) where
 
   five-pass : WellFormed P → RoomToBuild h v w → AllPass (problemChecks P (problemFits P) outputs)
   five-pass F R =
-      let a = well-formed-exactly P .1 F in
-      (
+      let a = well-formed-exactly P .1 F in (
         unless-exactly (sizesInRange (P .m) (P .n)) .1 (a .0),
         (unless-exactly (problemFits P) .1 (a .1), (unless-exactly outputs .1 (has-room R), (a .2, (a .3, tt)))),
       )
@@ -113,8 +112,7 @@ module _ (P : Problem) (h v w : List ℤ) where
         unless-none (problemFits P) (a .1 .0),
         a .1 .1 .1 .0,
         a .1 .1 .1 .1 .0,
-      ) in
-      (
+      ) in (
         record {
           well-formed = well-formed-exactly P .0 fits;
           in-range = not-true (run P .state .over) (unless-none (not (run P .state .over)) (a .1 .1 .1 .1 .1 .0));

@@ -202,11 +202,10 @@ module _ (m n : ℕ) (matrix moduli cs es kept out : List ℕ) (a : TranslateAns
       let F = c-formula-translated e in
       let L = limited-of (F .accepted .well-formed) in
       let few = F .formula .few in
-      let l = length-grid (terms f) (d P (run P)) (λ t g. translated P (run P) (term P f t) g) in
-      (
+      let l = length-grid (terms f) (d P (run P)) (λ t g. translated P (run P) (term P f t) g) in (
         rw (B .kept) (bytes-keep (terms f) (f .coefficients) kept refl (omega (arith, few, F .room .kept, length-longs (numbersIn kept) kept))),
         rw (B .d, B .translated) (bytes-keep (terms f * d P (run P)) (translatedExponents P f) out l
-        (omega (arith, l, room-for-exponents P L (run-right P) f few, F .room .translated, length-longs (numbersIn out) out))),
+            (omega (arith, l, room-for-exponents P L (run-right P) f few, F .room .translated, length-longs (numbersIn out) out))),
       )
 
   -- the same problem built, in the bytes h, v, w

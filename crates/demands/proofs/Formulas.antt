@@ -74,8 +74,7 @@ module _ (P : Problem) (f : Formula) (kept out : List ℤ) where
       let fits : inputs ≡ true = rw (a .1, formula-fits-exactly P f .1 (G .fits, G .few)) in
       let room : outputs ≡ true = rw (le-leb roomCoefficients (length kept) (R .kept), le-leb roomExponents (length out) (R .translated)) in
       let small = none-out-exactly exponentInRange (f .exponents) .1 (λ i _. exponent-exactly (nth (f .exponents) i) .1 (G .small i)) in
-      let terms-pass = all-terms-exactly P (run P) f .1 h in
-      (
+      let terms-pass = all-terms-exactly P (run P) f .1 h in (
         unless-exactly (sizesInRange (P .m) (P .n)) .1 (a .0),
         (
           unless-exactly inputs .1 fits,
@@ -88,8 +87,7 @@ module _ (P : Problem) (f : Formula) (kept out : List ℤ) where
   translated-of a =
       let i = and-true (problemFits P) (formulaFits P f) (unless-none inputs (a .1 .0)) in
       let fits = formula-fits-exactly P f .0 (i .1) in
-      let o = and-true (leb roomCoefficients (length kept)) (leb roomExponents (length out)) (unless-none outputs (a .1 .1 .0)) in
-      (
+      let o = and-true (leb roomCoefficients (length kept)) (leb roomExponents (length out)) (unless-none outputs (a .1 .1 .0)) in (
         record {
           well-formed = well-formed-exactly P .0 (unless-none (sizesInRange (P .m) (P .n)) (a .0), i .0, a .1 .1 .1 .0, a .1 .1 .1 .1 .0);
           in-range = not-true (run P .state .over) (unless-none (not (run P .state .over)) (a .1 .1 .1 .1 .1 .1 .0));
@@ -176,8 +174,11 @@ module _ (P : Problem) (h v w : List ℤ) (r : BuildAnswer) (h₁ v₁ w₁ : Li
   pub free-exactly : (m : ℕ → ℤ)
       → Free P m ↔ ((e : ℕ → ℤ) × ((j : ℕ) → j < P .n → backIn P r v₁ (width P r - r .rank) e j ≡ m j))
   free-exactly m = (
-    λ F. (translated P (run P) m, λ j b. back-is (translated P (run P) m) (translated P (run P) m) (λ g _. refl) j b
-    ∙ translated-back P (run P) (run-right P) m F j b),
+    λ F. (
+      translated P (run P) m,
+      λ j b. back-is (translated P (run P) m) (translated P (run P) m) (λ g _. refl) j b
+          ∙ translated-back P (run P) (run-right P) m F j b,
+    ),
     λ x. free-of-groups P (run P) (run-right P) m (x .0) (λ j b. sym (back-is (x .0) (x .0) (λ g _. refl) j b) ∙ x .1 j b),
   )
 

@@ -49,7 +49,7 @@ problem-fits-exactly P = (
 pub formula-fits-exactly : (P : Problem) (f : Formula) → (formulaFits P f ≡ true) ↔ ((length (f .exponents) ≡ terms f * P .n) × (terms f ≤ 64))
 formula-fits-exactly P f = (
   λ e. let a = and-true (eqb (length (f .exponents)) (terms f * P .n)) (leb (terms f) mostTerms) e in
-  (eqb-true (length (f .exponents)) (terms f * P .n) (a .0), leb-true (terms f) mostTerms (a .1)),
+      (eqb-true (length (f .exponents)) (terms f * P .n) (a .0), leb-true (terms f) mostTerms (a .1)),
   λ l. both (eq-eqb (length (f .exponents)) (terms f * P .n) (l .0)) (le-leb (terms f) mostTerms (l .1)),
 )
 
@@ -77,7 +77,7 @@ exponent-exactly z = either-way 10_000 z
 pub modulus-exactly : (z : ℤ) → (modulusInRange z ≡ true) ↔ ((pos 0 ≤ℤ z) × (natAbs z ≤ 1000))
 modulus-exactly z = (
   λ e. let b = between (pos 0) (pos 1000) z e in
-  (b .0, omega (zarith, b .0, b .1, parts z)),
+      (b .0, omega (zarith, b .0, b .1, parts z)),
   λ h. both (leZ-is (pos 0) z (h .0)) (leZ-is z (pos 1000) (omega (zarith, h .1, parts z))),
 )
 

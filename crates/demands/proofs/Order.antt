@@ -168,7 +168,7 @@ module _ (good : ℤ → Bool) (xs : List ℤ) where
   unfolding firstOut
   first-out-exactly i = (
     λ e. let F = finds out (length xs) i e in
-    record { within = F .within; fails = not-true (good (nth xs i)) (F .holds); before = λ j l. not-false (good (nth xs j)) (F .lower j l) },
+        record { within = F .within; fails = not-true (good (nth xs i)) (F .holds); before = λ j l. not-false (good (nth xs j)) (F .lower j l) },
     λ F. found-by out (length xs) i (record { within = F .within; holds = ap not (F .fails); lower = λ j l. ap not (F .before j l) }),
   )
 
@@ -314,8 +314,7 @@ pub translate-not-0 : (P : Problem) (f : Formula) (inputs outputs : Bool) (numbe
     → DecidedBy (translateChecks P f inputs outputs) number place → number ≢ 0
 translate-not-0 P f inputs outputs number place D =
     refusal-not-0 (sizesInRange (P .m) (P .n)) inputs outputs
-    (moduliCheck P ∷ entriesCheck P ∷ exponentsCheck (f .exponents) ∷ rangeCheck (run P) ∷ termsCheck P (run P) f ∷ [])
-    (
+    (moduliCheck P ∷ entriesCheck P ∷ exponentsCheck (f .exponents) ∷ rangeCheck (run P) ∷ termsCheck P (run P) f ∷ []) (
       λ p e z. omega arith,
       (
         λ p e z. omega arith,
