@@ -13,7 +13,6 @@ use native.Mathlib.Omega.{arith}
 use lib.Dec.{leb}
 use lib.ListN.{length}
 use lib.IntN.{ℤ}
-use borrow.Author.Tests.{leb-true, le-leb}
 use Rattle.whole.specs.Lists.{nth}
 use Rattle.whole.specs.Matrix.{Matrix}
 use Rattle.rules.specs.Limits.{roomH, roomV, roomW, sizesInRange}
@@ -24,7 +23,7 @@ use Rattle.rules.specs.Steps.{start}
 use Rattle.rules.specs.Stages.{Run, run, H, U, W}
 use Rattle.rules.specs.Calls.{Check, Verdict, taken, refused, verdict, rangeCheck, buildVerdict, buildOf, built, problemFits, contentsH, contentsV, contentsW}
 use Rattle.theory.proofs.ExtraTests.{true-not-false}
-use Rattle.theory.proofs.MoreTests.{and-true, not-true}
+use Rattle.theory.proofs.MoreTests.{not-true}
 use Rattle.theory.proofs.MoreLists.{table, length-grid}
 use Rattle.theory.proofs.Accepted.{AllPass, unless-none}
 use Rattle.theory.proofs.Unique.{Alike, normal-unique}
@@ -36,8 +35,8 @@ use Rattle.theory.proofs.Flag.{SomeBeyond, over-exactly}
 use Rattle.scaling.specs.declared.BuildAnswer.{BuildAnswer}
 use Rattle.scaling.specs.Checks.{problemChecks}
 use Rattle.scaling.specs.Answers.{Builds, RoomToBuild}
-use Rattle.demands.proofs.Order.{DecidedBy, taken-exactly}
-use Rattle.demands.proofs.Limits.{PassesLimits, well-formed-exactly, unless-exactly, limited-of}
+use Rattle.demands.proofs.Order.{DecidedBy, all-pass-append, taken-exactly}
+use Rattle.demands.proofs.Limits.{PassesLimits, well-formed-exactly, unless-exactly, build-room-exactly, limited-of}
 use Rattle.demands.proofs.Refusals.{checksOfBuild, build-ordered}
 use Rattle.demands.proofs.Buffers.{KeepsRest, filled-keeps, table-filled, normal-same}
 
@@ -72,26 +71,15 @@ module _ (P : Problem) (h v w : List ℤ) where
   abbrev outputs : Bool
   outputs = leb roomH (length h) && leb roomV (length v) && leb roomW (length w)
 
-  room-of : outputs ≡ true → RoomToBuild h v w
-  room-of e =
-      let a = and-true (leb roomH (length h) && leb roomV (length v)) (leb roomW (length w)) e in
-      let b = and-true (leb roomH (length h)) (leb roomV (length v)) (a .0) in
-      record { h = leb-true roomH (length h) (b .0); v = leb-true roomV (length v) (b .1); w = leb-true roomW (length w) (a .1) }
-
-  has-room : RoomToBuild h v w → outputs ≡ true
-  has-room R = rw (le-leb roomH (length h) (R .h), le-leb roomV (length v) (R .v), le-leb roomW (length w) (R .w))
-
   five-pass : WellFormed P → RoomToBuild h v w → AllPass (problemChecks P (problemFits P) outputs)
   five-pass F R =
       let a = well-formed-exactly P .1 F in (
         unless-exactly (sizesInRange (P .m) (P .n)) .1 (a .0),
-        (unless-exactly (problemFits P) .1 (a .1), (unless-exactly outputs .1 (has-room R), (a .2, (a .3, tt)))),
+        (unless-exactly (problemFits P) .1 (a .1), (unless-exactly outputs .1 (build-room-exactly h v w .1 R), (a .2, (a .3, tt)))),
       )
 
   all-pass-of : WellFormed P → RoomToBuild h v w → run P .state .over ≡ false → AllPass (checksOfBuild P h v w)
-  all-pass-of F R o =
-      let a = five-pass F R in
-      (a .0, (a .1 .0, (a .1 .1 .0, (a .1 .1 .1 .0, (a .1 .1 .1 .1 .0, (rw o, tt))))))
+  all-pass-of F R o = all-pass-append (problemChecks P (problemFits P) outputs) (rangeCheck (run P) ∷ []) (five-pass F R) (rw o, tt)
 
   -- number 7: the checks before it find no fault
   refused-7 : WellFormed P → RoomToBuild h v w → run P .state .over ≡ true → DecidedBy (checksOfBuild P h v w) 7 0
@@ -117,7 +105,7 @@ module _ (P : Problem) (h v w : List ℤ) where
           well-formed = well-formed-exactly P .0 fits;
           in-range = not-true (run P .state .over) (unless-none (not (run P .state .over)) (a .1 .1 .1 .1 .1 .0));
         },
-        room-of (unless-none outputs (a .1 .1 .0)),
+        build-room-exactly h v w .0 (unless-none outputs (a .1 .1 .0)),
       )
 
 -- ---- demand 2

@@ -7,7 +7,7 @@ use mathlib.Core.Path.{_≡_, refl, sym, _∙_, ap, ap₂, subst}
 use mathlib.Core.Logic.{_↔_, _⊎_, inl, inr}
 use mathlib.Core.Bool.{Bool, true, _&&_}
 use mathlib.Core.List.{List}
-use Prim.Native.Nat.{ℕ, _+_, _*_, _%_}
+use Prim.Native.Nat.{ℕ, _+_, _*_, _/_, _%_, _≤_}
 use native.Mathlib.Omega.{arith}
 use lib.Dec.{leb}
 use lib.ListN.{length}
@@ -15,13 +15,13 @@ use borrow.Author.Tests.{eqb-true, eq-eqb}
 use Rattle.rules.specs.Limits.{roomH, roomV, roomW}
 use Rattle.rules.specs.Problem.{Problem, WellFormed, N}
 use Rattle.rules.specs.Stages.{run, H, U, W}
-use Rattle.rules.specs.Calls.{Check, Verdict, taken, refused, verdict, buildVerdict, problemFits}
+use Rattle.rules.specs.Calls.{Check, Verdict, taken, refused, verdict, inputsCheck, outputsCheck, buildVerdict, problemFits}
 use Rattle.rules.specs.Calls.{buildReply, lentAfter, contentsH, contentsV, contentsW, buildOf, built}
 use Rattle.rules.specs.Bytes.{bytesOf, wholeNumbers, numbersIn, numbersOf}
 use Rattle.rules.specs.Bench.{problemOf, hasRoom, benchBuildVerdict, benchBuildOf, BenchBuilt}
 use Rattle.theory.proofs.MoreTests.{and-true}
 use Rattle.theory.proofs.MoreLists.{length-grid}
-use Rattle.theory.proofs.Accepted.{AllPass, unless-none}
+use Rattle.theory.proofs.Accepted.{AllPass}
 use Rattle.theory.proofs.Sizes.{room-for-H, room-for-V, room-for-W}
 use Rattle.theory.proofs.Run.{run-steps}
 use Rattle.theory.proofs.Sequence.{written}
@@ -32,7 +32,8 @@ use Rattle.scaling.specs.Answers.{RoomToBuild}
 use Rattle.bench.specs.Answers.{Builds}
 use Rattle.bench.proofs.Bytes.{length-longs}
 use Rattle.demands.proofs.Order.{taken-exactly, refused-exactly, buildChecks, build-not-0}
-use Rattle.demands.proofs.Limits.{limited-of}
+use Rattle.demands.proofs.Limits.{both, at-least, problem-fits-exactly, limited-of}
+use Rattle.demands.proofs.Table.{Row, NotAt0, row-at-0, and-exactly, ProblemLengths}
 use Rattle.demands.proofs.Refusals.{Ordered, ordered, BuildRefused, checksOfBuild}
 use Rattle.demands.proofs.Buffers.{KeepsRest}
 use Rattle.demands.proofs.Answers.{Answered, width, accepted-of, build-accepted-exactly, build-answered, range-exactly, taken-or-range}
@@ -48,6 +49,61 @@ outputsOfCBuild h v w = hasRoom roomH h && hasRoom roomV v && hasRoom roomW w
 
 abbrev pub checksOfCBuild : (m n : ℕ) (matrix moduli h v w : List ℕ) → List Check
 checksOfCBuild m n matrix moduli h v w = buildChecks (problemOf m n matrix moduli) (inputsOfCBuild m n matrix moduli) (outputsOfCBuild h v w)
+
+-- 2 and 3 of the table, in bytes
+abbrev pub Whole : List ℕ → Type 0
+Whole bs = length bs % 4 ≡ 0
+
+abbrev pub RoomIn : ℕ → List ℕ → Type 0
+RoomIn room bs = Whole bs × (room ≤ length bs / 4)
+
+pub whole-exactly : (bs : List ℕ) → (wholeNumbers bs ≡ true) ↔ Whole bs
+whole-exactly bs = (eqb-true (length bs % 4) 0, eq-eqb (length bs % 4) 0)
+
+pub room-exactly : (room : ℕ) (bs : List ℕ) → (hasRoom room bs ≡ true) ↔ RoomIn room bs
+room-exactly room bs = and-exactly (wholeNumbers bs) (leb room (numbersIn bs)) (whole-exactly bs) (at-least room (numbersIn bs))
+
+pub record InputsInBytes (m n : ℕ) (matrix moduli : List ℕ) : Type 0 where
+  pub matrix-whole : Whole matrix
+  pub moduli-whole : Whole moduli
+  pub lengths : ProblemLengths (problemOf m n matrix moduli)
+
+pub record OutputsInBytes (h v w : List ℕ) : Type 0 where
+  pub h-room : RoomIn 192 h
+  pub v-room : RoomIn 576 v
+  pub w-room : RoomIn 576 w
+
+pub row-2-c-build : (m n : ℕ) (matrix moduli : List ℕ)
+    → Row (inputsCheck (inputsOfCBuild m n matrix moduli)) 2 (InputsInBytes m n matrix moduli) (NotAt0 (InputsInBytes m n matrix moduli))
+row-2-c-build m n matrix moduli = row-at-0 2 (inputsOfCBuild m n matrix moduli) (InputsInBytes m n matrix moduli) (to, back)
+  where
+    P : Problem
+    P = problemOf m n matrix moduli
+
+    to : inputsOfCBuild m n matrix moduli ≡ true → InputsInBytes m n matrix moduli
+    to e =
+        let a = and-true (wholeNumbers matrix && wholeNumbers moduli) (problemFits P) e in
+        let b = and-true (wholeNumbers matrix) (wholeNumbers moduli) (a .0) in
+        record {
+          matrix-whole = whole-exactly matrix .0 (b .0);
+          moduli-whole = whole-exactly moduli .0 (b .1);
+          lengths = problem-fits-exactly P .0 (a .1);
+        }
+
+    back : InputsInBytes m n matrix moduli → inputsOfCBuild m n matrix moduli ≡ true
+    back I = both (both (whole-exactly matrix .1 (I .matrix-whole)) (whole-exactly moduli .1 (I .moduli-whole))) (problem-fits-exactly P .1 (I .lengths))
+
+pub row-3-c-build : (h v w : List ℕ) → Row (outputsCheck (outputsOfCBuild h v w)) 3 (OutputsInBytes h v w) (NotAt0 (OutputsInBytes h v w))
+row-3-c-build h v w = row-at-0 3 (outputsOfCBuild h v w) (OutputsInBytes h v w) (to, back)
+  where
+    to : outputsOfCBuild h v w ≡ true → OutputsInBytes h v w
+    to e =
+        let a = and-true (hasRoom 192 h && hasRoom 576 v) (hasRoom 576 w) e in
+        let b = and-true (hasRoom 192 h) (hasRoom 576 v) (a .0) in
+        record { h-room = room-exactly 192 h .0 (b .0); v-room = room-exactly 576 v .0 (b .1); w-room = room-exactly 576 w .0 (a .1) }
+
+    back : OutputsInBytes h v w → outputsOfCBuild h v w ≡ true
+    back O = both (both (room-exactly 192 h .1 (O .h-room)) (room-exactly 576 v .1 (O .v-room))) (room-exactly 576 w .1 (O .w-room))
 
 -- what the call is by its verdict
 abbrev benchBuilt : Problem → (h v w : List ℕ) → Verdict → BenchBuilt
@@ -90,11 +146,11 @@ module _ (m n : ℕ) (matrix moduli h v w : List ℕ) (r : BuildAnswer) (h₁ v�
 -- ---- the same call on the numbers
 -- every byte length is a multiple of four
 pub record WholeToBuild (matrix moduli h v w : List ℕ) : Type 0 where
-  pub matrix-whole : length matrix % 4 ≡ 0
-  pub moduli-whole : length moduli % 4 ≡ 0
-  pub h-whole : length h % 4 ≡ 0
-  pub v-whole : length v % 4 ≡ 0
-  pub w-whole : length w % 4 ≡ 0
+  pub matrix-whole : Whole matrix
+  pub moduli-whole : Whole moduli
+  pub h-whole : Whole h
+  pub v-whole : Whole v
+  pub w-whole : Whole w
 
 -- the bytes after the first m·N, N·N and N·N numbers are as they were
 pub record BytesKept (P : Problem) (h v w : List ℕ) (r : BuildAnswer) (h₁ v₁ w₁ : List ℕ) : Type 0 where
@@ -103,11 +159,8 @@ pub record BytesKept (P : Problem) (h v w : List ℕ) (r : BuildAnswer) (h₁ v�
   pub rest-of-w : KeepsRest (4 * (width P r * width P r)) w w₁
 
 -- room for so many numbers in whole bytes
-pub room-same : (room : ℕ) (bs : List ℕ) → length bs % 4 ≡ 0 → hasRoom room bs ≡ leb room (length (numbersOf bs))
-room-same room bs e = ap (λ (b : Bool). b && leb room (numbersIn bs)) (eq-eqb (length bs % 4) 0 e) ∙ ap (leb room) (sym (length-longs (numbersIn bs) bs))
-
-pub whole-of : (room : ℕ) (bs : List ℕ) → hasRoom room bs ≡ true → length bs % 4 ≡ 0
-whole-of room bs e = eqb-true (length bs % 4) 0 (and-true (wholeNumbers bs) (leb room (numbersIn bs)) e .0)
+pub room-same : (room : ℕ) (bs : List ℕ) → Whole bs → hasRoom room bs ≡ leb room (length (numbersOf bs))
+room-same room bs e = ap (λ (b : Bool). b && leb room (numbersIn bs)) (whole-exactly bs .1 e) ∙ ap (leb room) (sym (length-longs (numbersIn bs) bs))
 
 module _ (m n : ℕ) (matrix moduli h v w : List ℕ) (r : BuildAnswer) (h₁ v₁ w₁ : List ℕ)
     (promise : Builds (benchBuildOf m n matrix moduli h v w) r h₁ v₁ w₁) where
@@ -118,7 +171,7 @@ module _ (m n : ℕ) (matrix moduli h v w : List ℕ) (r : BuildAnswer) (h₁ v�
       → verdict (checksOfCBuild m n matrix moduli h v w) ≡ verdict (checksOfBuild P (numbersOf h) (numbersOf v) (numbersOf w))
   verdict-same F =
       let i : inputsOfCBuild m n matrix moduli ≡ problemFits P
-      = ap₂ (λ (a b : Bool). a && b && problemFits P) (eq-eqb (length matrix % 4) 0 (F .matrix-whole)) (eq-eqb (length moduli % 4) 0 (F .moduli-whole)) in
+      = ap₂ (λ (a b : Bool). a && b && problemFits P) (whole-exactly matrix .1 (F .matrix-whole)) (whole-exactly moduli .1 (F .moduli-whole)) in
       let o : outputsOfCBuild h v w ≡ leb roomH (length (numbersOf h)) && leb roomV (length (numbersOf v)) && leb roomW (length (numbersOf w))
       = ap₂ _&&_ (ap₂ _&&_ (room-same roomH h (F .h-whole)) (room-same roomV v (F .v-whole))) (room-same roomW w (F .w-whole)) in
       ap₂ (λ (a b : Bool). verdict (buildChecks P a b)) i o
@@ -169,16 +222,14 @@ module _ (m n : ℕ) (matrix moduli h v w : List ℕ) (r : BuildAnswer) (h₁ v�
   pub c-build-whole : r .number ≡ 0 → WholeToBuild matrix moduli h v w
   c-build-whole e =
       let a = c-build-ordered m n matrix moduli h v w r h₁ v₁ w₁ promise .accepts-exactly .0 e in
-      let i = and-true (wholeNumbers matrix && wholeNumbers moduli) (problemFits P) (unless-none (inputsOfCBuild m n matrix moduli) (a .1 .0)) in
-      let j = and-true (wholeNumbers matrix) (wholeNumbers moduli) (i .0) in
-      let o = and-true (hasRoom roomH h && hasRoom roomV v) (hasRoom roomW w) (unless-none (outputsOfCBuild h v w) (a .1 .1 .0)) in
-      let q = and-true (hasRoom roomH h) (hasRoom roomV v) (o .0) in
+      let I = row-2-c-build m n matrix moduli .passes-exactly .0 (a .1 .0) in
+      let O = row-3-c-build h v w .passes-exactly .0 (a .1 .1 .0) in
       record {
-        matrix-whole = eqb-true (length matrix % 4) 0 (j .0);
-        moduli-whole = eqb-true (length moduli % 4) 0 (j .1);
-        h-whole = whole-of roomH h (q .0);
-        v-whole = whole-of roomV v (q .1);
-        w-whole = whole-of roomW w (o .1);
+        matrix-whole = I .matrix-whole;
+        moduli-whole = I .moduli-whole;
+        h-whole = O .h-room .0;
+        v-whole = O .v-room .0;
+        w-whole = O .w-room .0;
       }
 
   -- demand 2: "An accepted problem yields ..", in the numbers that the bytes are

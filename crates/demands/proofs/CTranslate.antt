@@ -13,19 +13,18 @@ use native.Mathlib.Omega.{arith}
 use lib.Dec.{leb}
 use lib.ListN.{length}
 use lib.IntN.{ℤ}
-use borrow.Author.Tests.{eqb-true, eq-eqb}
 use Rattle.whole.specs.Lists.{nth}
 use Rattle.rules.specs.Limits.{roomCoefficients, roomExponents}
 use Rattle.rules.specs.Problem.{Problem, N}
 use Rattle.rules.specs.Stages.{run}
 use Rattle.rules.specs.Formulas.{Formula, terms, term, d, translated}
-use Rattle.rules.specs.Calls.{Check, Verdict, taken, refused, verdict, translateVerdict, problemFits, formulaFits}
+use Rattle.rules.specs.Calls.{Check, Verdict, taken, refused, verdict, inputsCheck, outputsCheck, translateVerdict, problemFits, formulaFits}
 use Rattle.rules.specs.Calls.{translateReply, lentAfter, buildOf, translateOf, translatedTo, translatedExponents}
 use Rattle.rules.specs.Bytes.{bytesOf, wholeNumbers, numbersIn, numbersOf}
 use Rattle.rules.specs.Bench.{problemOf, formulaOf, hasRoom, benchBuildOf, benchTranslateVerdict, benchTranslateOf, BenchTranslated}
 use Rattle.theory.proofs.MoreTests.{and-true}
 use Rattle.theory.proofs.MoreLists.{length-grid}
-use Rattle.theory.proofs.Accepted.{AllPass, unless-none}
+use Rattle.theory.proofs.Accepted.{AllPass}
 use Rattle.theory.proofs.Run.{run-right}
 use Rattle.theory.proofs.Sizes.{room-for-exponents}
 use Rattle.scaling.specs.declared.BuildAnswer.{BuildAnswer}
@@ -35,13 +34,14 @@ use Rattle.scaling.specs.Answers.{RoomToTranslate, GoodFormula}
 use Rattle.bench.specs.Answers.{Builds, Translates}
 use Rattle.bench.proofs.Bytes.{length-longs}
 use Rattle.demands.proofs.Order.{taken-exactly, refused-exactly, translateChecks, translate-not-0}
-use Rattle.demands.proofs.Limits.{limited-of}
+use Rattle.demands.proofs.Limits.{both, limited-of}
+use Rattle.demands.proofs.Table.{Row, NotAt0, row-at-0, FormulaLengths, formula-lengths-exactly}
 use Rattle.demands.proofs.Refusals.{Ordered, ordered, TranslateRefused, checksOfTranslate}
 use Rattle.demands.proofs.Buffers.{KeepsRest}
 use Rattle.demands.proofs.Answers.{Accepted}
 use Rattle.demands.proofs.Formulas.{Translatable, translated-of, FormulaTranslated, translated-exactly, formula-translated, backIn, first-formula-returns, no-other-exponents}
 use Rattle.demands.proofs.Bytes.{AllFit, numbers-filled, bytes-keep, numbers-fit, grid-fits}
-use Rattle.demands.proofs.CBuild.{room-same, whole-of, c-build-is-build, c-build-whole}
+use Rattle.demands.proofs.CBuild.{Whole, RoomIn, whole-exactly, room-exactly, room-same, c-build-is-build, c-build-whole}
 
 -- ---- demand 1
 -- its checks: "those two calls refuse a byte length that is no multiple of four as a length fault (2 for an input, 3 for an output)"
@@ -57,6 +57,65 @@ abbrev pub checksOfCTranslate : (m n : ℕ) (matrix moduli cs es kept out : List
 checksOfCTranslate m n matrix moduli cs es kept out =
     translateChecks (problemOf m n matrix moduli) (formulaOf cs es) (inputsOfCTranslate m n matrix moduli cs es) (outputsOfCTranslate kept out)
 
+-- 2 and 3 of the table, in bytes
+pub record InputsInBytes (m n : ℕ) (matrix moduli cs es : List ℕ) : Type 0 where
+  pub matrix-whole : Whole matrix
+  pub moduli-whole : Whole moduli
+  pub coefficients-whole : Whole cs
+  pub exponents-whole : Whole es
+  pub lengths : FormulaLengths (problemOf m n matrix moduli) (formulaOf cs es)
+
+pub record OutputsInBytes (kept out : List ℕ) : Type 0 where
+  pub kept-room : RoomIn 64 kept
+  pub out-room : RoomIn 1024 out
+
+pub row-2-c-translate : (m n : ℕ) (matrix moduli cs es : List ℕ) → Row (inputsCheck (inputsOfCTranslate m n matrix moduli cs es)) 2
+    (InputsInBytes m n matrix moduli cs es) (NotAt0 (InputsInBytes m n matrix moduli cs es))
+row-2-c-translate m n matrix moduli cs es =
+    row-at-0 2 (inputsOfCTranslate m n matrix moduli cs es) (InputsInBytes m n matrix moduli cs es) (to, back)
+  where
+    P : Problem
+    P = problemOf m n matrix moduli
+
+    f : Formula
+    f = formulaOf cs es
+
+    to : inputsOfCTranslate m n matrix moduli cs es ≡ true → InputsInBytes m n matrix moduli cs es
+    to e =
+        let w₁ = wholeNumbers matrix in
+        let w₂ = wholeNumbers moduli in
+        let w₃ = wholeNumbers cs in
+        let w₄ = wholeNumbers es in
+        let t₅ = and-true (w₁ && w₂ && w₃ && w₄ && problemFits P) (formulaFits P f) e in
+        let t₄ = and-true (w₁ && w₂ && w₃ && w₄) (problemFits P) (t₅ .0) in
+        let t₃ = and-true (w₁ && w₂ && w₃) w₄ (t₄ .0) in
+        let t₂ = and-true (w₁ && w₂) w₃ (t₃ .0) in
+        let t₁ = and-true w₁ w₂ (t₂ .0) in
+        record {
+          matrix-whole = whole-exactly matrix .0 (t₁ .0);
+          moduli-whole = whole-exactly moduli .0 (t₁ .1);
+          coefficients-whole = whole-exactly cs .0 (t₂ .1);
+          exponents-whole = whole-exactly es .0 (t₃ .1);
+          lengths = formula-lengths-exactly P f .0 (both (t₄ .1) (t₅ .1));
+        }
+
+    back : InputsInBytes m n matrix moduli cs es → inputsOfCTranslate m n matrix moduli cs es ≡ true
+    back I =
+        let w₁ = whole-exactly matrix .1 (I .matrix-whole) in
+        let w₂ = whole-exactly moduli .1 (I .moduli-whole) in
+        let w₃ = whole-exactly cs .1 (I .coefficients-whole) in
+        let w₄ = whole-exactly es .1 (I .exponents-whole) in
+        let l = and-true (problemFits P) (formulaFits P f) (formula-lengths-exactly P f .1 (I .lengths)) in
+        both (both (both (both (both w₁ w₂) w₃) w₄) (l .0)) (l .1)
+
+pub row-3-c-translate : (kept out : List ℕ)
+    → Row (outputsCheck (outputsOfCTranslate kept out)) 3 (OutputsInBytes kept out) (NotAt0 (OutputsInBytes kept out))
+row-3-c-translate kept out = row-at-0 3 (outputsOfCTranslate kept out) (OutputsInBytes kept out) (
+  λ e. let a = and-true (hasRoom 64 kept) (hasRoom 1024 out) e in
+  record { kept-room = room-exactly 64 kept .0 (a .0); out-room = room-exactly 1024 out .0 (a .1) },
+  λ O. both (room-exactly 64 kept .1 (O .kept-room)) (room-exactly 1024 out .1 (O .out-room)),
+)
+
 -- what the call is by its verdict
 abbrev benchTranslated : Problem → Formula → (kept out : List ℕ) → Verdict → BenchTranslated
 benchTranslated P f kept out x = record {
@@ -67,12 +126,12 @@ benchTranslated P f kept out x = record {
 
 -- every byte length is a multiple of four
 pub record WholeToTranslate (matrix moduli cs es kept out : List ℕ) : Type 0 where
-  pub matrix-whole : length matrix % 4 ≡ 0
-  pub moduli-whole : length moduli % 4 ≡ 0
-  pub coefficients-whole : length cs % 4 ≡ 0
-  pub exponents-whole : length es % 4 ≡ 0
-  pub kept-whole : length kept % 4 ≡ 0
-  pub out-whole : length out % 4 ≡ 0
+  pub matrix-whole : Whole matrix
+  pub moduli-whole : Whole moduli
+  pub coefficients-whole : Whole cs
+  pub exponents-whole : Whole es
+  pub kept-whole : Whole kept
+  pub out-whole : Whole out
 
 -- the exponents of a formula that is translated have 32 bits
 exponents-fit : (P : Problem) (f : Formula) → ((t : ℕ) → t < terms f → Translatable P (term P f t))
@@ -114,10 +173,10 @@ module _ (m n : ℕ) (matrix moduli cs es kept out : List ℕ) (a : TranslateAns
   -- ---- the same call on the numbers
   verdict-same : WholeToTranslate matrix moduli cs es kept out → verdict checks ≡ verdict (checksOfTranslate P f (numbersOf kept) (numbersOf out))
   verdict-same F =
-      let w₁ = eq-eqb (length matrix % 4) 0 (F .matrix-whole) in
-      let w₂ = eq-eqb (length moduli % 4) 0 (F .moduli-whole) in
-      let w₃ = eq-eqb (length cs % 4) 0 (F .coefficients-whole) in
-      let w₄ = eq-eqb (length es % 4) 0 (F .exponents-whole) in
+      let w₁ = whole-exactly matrix .1 (F .matrix-whole) in
+      let w₂ = whole-exactly moduli .1 (F .moduli-whole) in
+      let w₃ = whole-exactly cs .1 (F .coefficients-whole) in
+      let w₄ = whole-exactly es .1 (F .exponents-whole) in
       let i : inputsOfCTranslate m n matrix moduli cs es ≡ problemFits P && formulaFits P f
       = ap (λ (b : Bool). b && problemFits P && formulaFits P f) (ap₂ _&&_ (ap₂ _&&_ (ap₂ _&&_ w₁ w₂) w₃) w₄) in
       let o : outputsOfCTranslate kept out ≡ leb roomCoefficients (length (numbersOf kept)) && leb roomExponents (length (numbersOf out))
@@ -160,23 +219,15 @@ module _ (m n : ℕ) (matrix moduli cs es kept out : List ℕ) (a : TranslateAns
   pub c-translate-whole : a .number ≡ 0 → WholeToTranslate matrix moduli cs es kept out
   c-translate-whole e =
       let p = c-translate-ordered .accepts-exactly .0 e in
-      let w₁ = wholeNumbers matrix in
-      let w₂ = wholeNumbers moduli in
-      let w₃ = wholeNumbers cs in
-      let w₄ = wholeNumbers es in
-      let t₅ = and-true (w₁ && w₂ && w₃ && w₄ && problemFits P) (formulaFits P f) (unless-none (inputsOfCTranslate m n matrix moduli cs es) (p .1 .0)) in
-      let t₄ = and-true (w₁ && w₂ && w₃ && w₄) (problemFits P) (t₅ .0) in
-      let t₃ = and-true (w₁ && w₂ && w₃) w₄ (t₄ .0) in
-      let t₂ = and-true (w₁ && w₂) w₃ (t₃ .0) in
-      let t₁ = and-true w₁ w₂ (t₂ .0) in
-      let o = and-true (hasRoom roomCoefficients kept) (hasRoom roomExponents out) (unless-none (outputsOfCTranslate kept out) (p .1 .1 .0)) in
+      let I = row-2-c-translate m n matrix moduli cs es .passes-exactly .0 (p .1 .0) in
+      let O = row-3-c-translate kept out .passes-exactly .0 (p .1 .1 .0) in
       record {
-        matrix-whole = eqb-true (length matrix % 4) 0 (t₁ .0);
-        moduli-whole = eqb-true (length moduli % 4) 0 (t₁ .1);
-        coefficients-whole = eqb-true (length cs % 4) 0 (t₂ .1);
-        exponents-whole = eqb-true (length es % 4) 0 (t₃ .1);
-        kept-whole = whole-of roomCoefficients kept (o .0);
-        out-whole = whole-of roomExponents out (o .1);
+        matrix-whole = I .matrix-whole;
+        moduli-whole = I .moduli-whole;
+        coefficients-whole = I .coefficients-whole;
+        exponents-whole = I .exponents-whole;
+        kept-whole = O .kept-room .0;
+        out-whole = O .out-room .0;
       }
 
   -- ---- demand 3

@@ -15,16 +15,16 @@ use native.Mathlib.Omega.{arith}
 use lib.Dec.{leb}
 use lib.ListN.{length, drop}
 use lib.IntN.{ℤ, natAbs, _*ℤ_}
-use borrow.Author.Tests.{leb-true, le-leb}
 use Rattle.whole.specs.Lists.{nth}
 use Rattle.whole.specs.Matrix.{Matrix}
 use Rattle.whole.specs.Sum.{sum}
 use Rattle.whole.proofs.Sum.{sum-cong}
 use Rattle.rules.specs.Limits.{M, roomCoefficients, roomExponents, exponentInRange, sizesInRange}
+use Rattle.rules.specs.Search.{Found, none, found}
 use Rattle.rules.specs.Problem.{Problem, WellFormed, s, N}
 use Rattle.rules.specs.Stages.{run, H, U, W}
 use Rattle.rules.specs.Formulas.{Free, Formula, terms, term, d, translated, group}
-use Rattle.rules.specs.Calls.{Check, Verdict, taken, verdict, translateVerdict, translateOf, translatedTo, translatedExponents, problemFits, formulaFits, buildOf}
+use Rattle.rules.specs.Calls.{Check, Verdict, taken, verdict, exponentsCheck, rangeCheck, termsCheck, translateVerdict, translateOf, translatedTo, translatedExponents, problemFits, formulaFits, buildOf}
 use Rattle.theory.proofs.MoreTests.{and-true, not-true}
 use Rattle.theory.proofs.MoreLists.{table, length-grid}
 use Rattle.theory.proofs.Accepted.{AllPass, unless-none, exponents-small}
@@ -34,10 +34,11 @@ use Rattle.theory.proofs.Run.{run-right}
 use Rattle.theory.proofs.Translation.{translated-back, translated-only, free-of-groups, ofGroups}
 use Rattle.scaling.specs.declared.BuildAnswer.{BuildAnswer}
 use Rattle.scaling.specs.declared.TranslateAnswer.{TranslateAnswer}
+use Rattle.scaling.specs.Checks.{problemChecks}
 use Rattle.scaling.specs.Answers.{Builds, Translates, RoomToTranslate, GoodFormula}
-use Rattle.demands.proofs.Order.{taken-exactly, none-out-exactly, all-terms-exactly}
-use Rattle.demands.proofs.Limits.{PassesLimits, well-formed-exactly, formula-fits-exactly, exponent-exactly, unless-exactly, limited-of}
-use Rattle.demands.proofs.Refusals.{checksOfTranslate, translate-ordered}
+use Rattle.demands.proofs.Order.{all-pass-append, taken-exactly, none-out-exactly, TermDecides, term-decides-exactly, all-terms-exactly}
+use Rattle.demands.proofs.Limits.{both, well-formed-exactly, formula-fits-exactly, exponent-exactly, unless-exactly, translate-room-exactly, limited-of}
+use Rattle.demands.proofs.Refusals.{Ordered, TranslateRefused, checksOfTranslate, translate-ordered}
 use Rattle.demands.proofs.Buffers.{KeepsRest, filled-keeps, table-filled}
 use Rattle.demands.proofs.Answers.{Accepted, width, build-answered}
 
@@ -67,33 +68,37 @@ module _ (P : Problem) (f : Formula) (kept out : List ℤ) where
   abbrev outputs : Bool
   outputs = leb roomCoefficients (length kept) && leb roomExponents (length out)
 
-  all-pass-of : Accepted P → GoodFormula P f → RoomToTranslate kept out
-      → ((t : ℕ) → t < terms f → Translatable P (term P f t)) → AllPass (checksOfTranslate P f kept out)
-  all-pass-of A G R h =
+  abbrev sevenChecks : List Check
+  sevenChecks = problemChecks P inputs outputs ++ exponentsCheck (f .exponents) ∷ rangeCheck (run P) ∷ []
+
+  seven-pass : Accepted P → GoodFormula P f → RoomToTranslate kept out → AllPass sevenChecks
+  seven-pass A G R =
       let a = well-formed-exactly P .1 (A .well-formed) in
-      let fits : inputs ≡ true = rw (a .1, formula-fits-exactly P f .1 (G .fits, G .few)) in
-      let room : outputs ≡ true = rw (le-leb roomCoefficients (length kept) (R .kept), le-leb roomExponents (length out) (R .translated)) in
+      let fits : inputs ≡ true = both (a .1) (formula-fits-exactly P f .1 (G .fits, G .few)) in
       let small = none-out-exactly exponentInRange (f .exponents) .1 (λ i _. exponent-exactly (nth (f .exponents) i) .1 (G .small i)) in
-      let terms-pass = all-terms-exactly P (run P) f .1 h in (
+      (
         unless-exactly (sizesInRange (P .m) (P .n)) .1 (a .0),
         (
           unless-exactly inputs .1 fits,
-          (unless-exactly outputs .1 room, (a .2, (a .3, (small, (rw (A .in-range), (terms-pass, tt)))))),
+          (unless-exactly outputs .1 (translate-room-exactly kept out .1 R), (a .2, (a .3, (small, (rw (A .in-range), tt))))),
         ),
       )
+
+  all-pass-of : Accepted P → GoodFormula P f → RoomToTranslate kept out → ((t : ℕ) → t < terms f → Translatable P (term P f t))
+      → AllPass (checksOfTranslate P f kept out)
+  all-pass-of A G R h = all-pass-append sevenChecks (termsCheck P (run P) f ∷ []) (seven-pass A G R) (all-terms-exactly P (run P) f .1 h, tt)
 
   pub translated-of : AllPass (checksOfTranslate P f kept out)
       → Accepted P × GoodFormula P f × RoomToTranslate kept out × ((t : ℕ) → t < terms f → Translatable P (term P f t))
   translated-of a =
       let i = and-true (problemFits P) (formulaFits P f) (unless-none inputs (a .1 .0)) in
-      let fits = formula-fits-exactly P f .0 (i .1) in
-      let o = and-true (leb roomCoefficients (length kept)) (leb roomExponents (length out)) (unless-none outputs (a .1 .1 .0)) in (
+      let fits = formula-fits-exactly P f .0 (i .1) in (
         record {
           well-formed = well-formed-exactly P .0 (unless-none (sizesInRange (P .m) (P .n)) (a .0), i .0, a .1 .1 .1 .0, a .1 .1 .1 .1 .0);
           in-range = not-true (run P .state .over) (unless-none (not (run P .state .over)) (a .1 .1 .1 .1 .1 .1 .0));
         },
         record { few = fits .1; fits = fits .0; small = exponents-small (f .exponents) (a .1 .1 .1 .1 .1 .0) },
-        record { kept = leb-true roomCoefficients (length kept) (o .0); translated = leb-true roomExponents (length out) (o .1) },
+        translate-room-exactly kept out .0 (unless-none outputs (a .1 .1 .0)),
         all-terms-exactly P (run P) f .0 (a .1 .1 .1 .1 .1 .1 .1 .0),
       )
 
@@ -108,6 +113,27 @@ module _ (P : Problem) (f : Formula) (kept out : List ℤ) (a : TranslateAnswer)
         λ e. translated-of P f kept out (D .accepts-exactly .0 e) .3,
         λ h. D .accepts-exactly .1 (all-pass-of P f kept out A G R h),
       )
+
+  -- and if it is not translated, the first term that is at fault is told: 8 where it is not free, else 9
+  pub else-term-refused : Accepted P → GoodFormula P f → RoomToTranslate kept out → a .number ≢ 0 → TermDecides P (run P) f (a .number) (a .place)
+  else-term-refused A G R n = go (termsCheck P (run P) f .fault) refl
+    where
+      D : Ordered (checksOfTranslate P f kept out) (a .number) (a .place) (TranslateRefused (checksOfTranslate P f kept out) kept out a kept₁ out₁)
+      D = translate-ordered P f kept out a kept₁ out₁ translates
+
+      go : (x : Found) → termsCheck P (run P) f .fault ≡ x → TermDecides P (run P) f (a .number) (a .place)
+      go none e = absurd (n (translated-exactly A G R .1 (all-terms-exactly P (run P) f .0 e)))
+      go (found t) e =
+          let x = D .by-the-first (termsCheck P (run P) f .number) t (record {
+            before = sevenChecks P f kept out;
+            check = termsCheck P (run P) f;
+            after = [];
+            listed = refl;
+            faultless = seven-pass P f kept out A G R;
+            its-number = refl;
+            its-place = e;
+          }) in
+          term-decides-exactly P (run P) f (a .number) (a .place) .0 (rw (x .1) e, sym (x .0))
 
   as-taken : a .number ≡ 0 → Translates (translatedTo P f kept out taken) a kept₁ out₁
   unfolding translateOf translateVerdict

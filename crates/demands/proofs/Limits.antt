@@ -21,11 +21,12 @@ use Rattle.rules.specs.Calls.{unless, firstOut, problemFits, formulaFits}
 use Rattle.theory.proofs.MoreTests.{and-true}
 use Rattle.theory.proofs.Sizes.{Limited}
 use Rattle.theory.proofs.Accepted.{unless-none, none-out, between, small}
+use Rattle.scaling.specs.Answers.{RoomToBuild, RoomToTranslate}
 use Rattle.scaling.proofs.Verdicts.{Sizes, sizes-passed, lengths-passed}
 use Rattle.demands.proofs.Order.{none-out-exactly}
 
 -- ---- tests
-both : {a b : Bool} → a ≡ true → b ≡ true → a && b ≡ true
+pub both : {a b : Bool} → a ≡ true → b ≡ true → a && b ≡ true
 both e f = rw (e, f)
 
 -- a check whose place is 0 passes exactly when its test does
@@ -51,6 +52,24 @@ formula-fits-exactly P f = (
   λ e. let a = and-true (eqb (length (f .exponents)) (terms f * P .n)) (leb (terms f) mostTerms) e in
       (eqb-true (length (f .exponents)) (terms f * P .n) (a .0), leb-true (terms f) mostTerms (a .1)),
   λ l. both (eq-eqb (length (f .exponents)) (terms f * P .n) (l .0)) (le-leb (terms f) mostTerms (l .1)),
+)
+
+-- ---- 3: "H at least 192 entries, V and W 576 each, weights 8, translated coefficients 64, translated exponents 1,024"
+pub build-room-exactly : (h v w : List ℤ) → (leb roomH (length h) && leb roomV (length v) && leb roomW (length w) ≡ true) ↔ RoomToBuild h v w
+build-room-exactly h v w = (
+  λ e.
+  let a = and-true (leb roomH (length h) && leb roomV (length v)) (leb roomW (length w)) e in
+  let b = and-true (leb roomH (length h)) (leb roomV (length v)) (a .0) in
+  record { h = leb-true roomH (length h) (b .0); v = leb-true roomV (length v) (b .1); w = leb-true roomW (length w) (a .1) },
+  λ R. both (both (le-leb roomH (length h) (R .h)) (le-leb roomV (length v) (R .v))) (le-leb roomW (length w) (R .w)),
+)
+
+pub translate-room-exactly : (kept out : List ℤ) → (leb roomCoefficients (length kept) && leb roomExponents (length out) ≡ true) ↔ RoomToTranslate kept out
+translate-room-exactly kept out = (
+  λ e.
+  let a = and-true (leb roomCoefficients (length kept)) (leb roomExponents (length out)) e in
+  record { kept = leb-true roomCoefficients (length kept) (a .0); translated = leb-true roomExponents (length out) (a .1) },
+  λ R. both (le-leb roomCoefficients (length kept) (R .kept)) (le-leb roomExponents (length out) (R .translated)),
 )
 
 -- ---- 4, 5 and 6: "moduli 0 to 1000", "entries -1000 to 1000", "formula exponents -10,000 to 10,000"

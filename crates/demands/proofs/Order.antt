@@ -46,6 +46,10 @@ passes-all (c ∷ cs) a = rw (a .0) (passes-all cs (a .1))
 pub taken-exactly : (cs : List Check) → (verdict cs ≡ taken) ↔ AllPass cs
 taken-exactly cs = (all-pass cs, passes-all cs)
 
+pub all-pass-append : (cs ds : List Check) → AllPass cs → AllPass ds → AllPass (cs ++ ds)
+all-pass-append [] ds a b = b
+all-pass-append (c ∷ cs) ds a b = (a .0, all-pass-append cs ds (a .1) b)
+
 deciding : (cs : List Check) (number place : ℕ) → verdict cs ≡ refused number place → DecidedBy cs number place
 deciding [] number place e = let z : _≡_ {A = ℕ} 0 1 = cc in absurd (omega arith)
 deciding (c ∷ cs) number place e = go (c .fault) refl e (deciding cs number place)
