@@ -4,26 +4,22 @@
 --
 -- `promise` is what build's `ensures` says; P is the problem as it was given; h, v, w are the lent outputs before the call and h₁, v₁, w₁ after it.
 -- WellFormed is of rules/specs/Problem, Right (H in column Hermite form, V normal, W its inverse) of rules/specs/Forms.
-use mathlib.Core.Path.{_≡_, refl, sym, _∙_, ap, ap₂, subst}
-use mathlib.Core.Logic.{_≢_, _↔_, _⊎_, inl, inr}
-use mathlib.Core.Bool.{Bool, true, false, not, _&&_}
+use mathlib.Core.Path.{_≡_, refl, _∙_, ap, subst}
+use mathlib.Core.Logic.{_↔_, _⊎_, inl, inr}
+use mathlib.Core.Bool.{Bool, true, false, _&&_, true≢false, false≢true}
 use mathlib.Core.List.{List, [], _∷_}
-use Prim.Native.Nat.{ℕ, _+_, _*_, _≤_, _<_}
+use Prim.Native.Nat.{ℕ, _+_, _*_, _<_}
 use native.Mathlib.Omega.{arith}
 use lib.Dec.{leb}
 use lib.ListN.{length}
 use lib.IntN.{ℤ}
-use Rattle.whole.specs.Lists.{nth}
 use Rattle.whole.specs.Matrix.{Matrix}
 use Rattle.rules.specs.Limits.{roomH, roomV, roomW, sizesInRange}
-use Rattle.rules.specs.Search.{none, found}
-use Rattle.rules.specs.Problem.{Problem, WellFormed, s, N, C, columns}
-use Rattle.rules.specs.Forms.{Normal, Right}
+use Rattle.rules.specs.Problem.{Problem, WellFormed, s, N, columns}
+use Rattle.rules.specs.Forms.{Right}
 use Rattle.rules.specs.Steps.{start}
-use Rattle.rules.specs.Stages.{Run, run, H, U, W}
-use Rattle.rules.specs.Calls.{Check, Verdict, taken, refused, verdict, rangeCheck, buildVerdict, buildOf, built, problemFits, contentsH, contentsV, contentsW}
-use Rattle.theory.proofs.ExtraTests.{true-not-false}
-use Rattle.theory.proofs.MoreTests.{not-true}
+use Rattle.rules.specs.Stages.{run, H, U, W}
+use Rattle.rules.specs.Calls.{Verdict, taken, rangeCheck, buildVerdict, buildOf, built, problemFits, contentsH, contentsV, contentsW}
 use Rattle.theory.proofs.MoreLists.{table, length-grid}
 use Rattle.theory.proofs.Accepted.{AllPass, unless-none}
 use Rattle.theory.proofs.Unique.{Alike, normal-unique}
@@ -36,12 +32,13 @@ use Rattle.scaling.specs.declared.BuildAnswer.{BuildAnswer}
 use Rattle.scaling.specs.Checks.{problemChecks}
 use Rattle.scaling.specs.Answers.{Builds, RoomToBuild}
 use Rattle.demands.proofs.Order.{DecidedBy, all-pass-append, taken-exactly}
+use Rattle.demands.proofs.Limits as Limits
 use Rattle.demands.proofs.Limits.{PassesLimits, well-formed-exactly, unless-exactly, build-room-exactly, limited-of}
 use Rattle.demands.proofs.Refusals.{checksOfBuild, build-ordered}
 use Rattle.demands.proofs.Buffers.{KeepsRest, filled-keeps, table-filled, normal-same}
 
 -- ---- which problems are accepted
--- well formed, and no step of the build writes a value beyond M
+-- well formed, and no step of the build writes a value beyond M (the run's flag is set exactly when one does: Table.row-7, and range-exactly below)
 pub record Accepted (P : Problem) : Type 0 where
   pub well-formed : WellFormed P
   pub in-range : run P .state .over ≡ false
@@ -79,7 +76,7 @@ module _ (P : Problem) (h v w : List ℤ) where
       )
 
   all-pass-of : WellFormed P → RoomToBuild h v w → run P .state .over ≡ false → AllPass (checksOfBuild P h v w)
-  all-pass-of F R o = all-pass-append (problemChecks P (problemFits P) outputs) (rangeCheck (run P) ∷ []) (five-pass F R) (rw o, tt)
+  all-pass-of F R o = all-pass-append (problemChecks P (problemFits P) outputs) (rangeCheck (run P) ∷ []) (five-pass F R) (Limits.range-exactly (run P) .1 o, tt)
 
   -- number 7: the checks before it find no fault
   refused-7 : WellFormed P → RoomToBuild h v w → run P .state .over ≡ true → DecidedBy (checksOfBuild P h v w) 7 0
@@ -103,7 +100,7 @@ module _ (P : Problem) (h v w : List ℤ) where
       ) in (
         record {
           well-formed = well-formed-exactly P .0 fits;
-          in-range = not-true (run P .state .over) (unless-none (not (run P .state .over)) (a .1 .1 .1 .1 .1 .0));
+          in-range = Limits.range-exactly (run P) .0 (a .1 .1 .1 .1 .1 .0);
         },
         build-room-exactly h v w .0 (unless-none outputs (a .1 .1 .0)),
       )
@@ -163,10 +160,10 @@ module _ (P : Problem) (h v w : List ℤ) (r : BuildAnswer) (h₁ v₁ w₁ : Li
   by-flag : (b : Bool) → run P .state .over ≡ b → ((r .number ≡ 7) ↔ (b ≡ true)) × ((r .number ≡ 0) ↔ (b ≡ false))
   by-flag true o =
       let e = build-ordered P h v w r h₁ v₁ w₁ promise .by-the-first 7 0 (refused-7 P h v w F room o) .0 in
-      ((λ _. refl, λ _. e), (λ z. absurd (omega arith), λ z. absurd (true-not-false refl z)))
+      ((λ _. refl, λ _. e), (λ z. absurd (omega arith), λ z. absurd (true≢false z)))
   by-flag false o =
       let e = build-accepted-exactly P h v w r h₁ v₁ w₁ promise .1 (record { well-formed = F; in-range = o }, room) in
-      ((λ z. absurd (omega arith), λ z. absurd (true-not-false z refl)), (λ _. refl, λ _. e))
+      ((λ z. absurd (omega arith), λ z. absurd (false≢true z)), (λ _. refl, λ _. e))
 
   -- a well-formed problem with room is taken or refused for range
   pub taken-or-range : (r .number ≡ 0) ⊎ (r .number ≡ 7)
@@ -182,7 +179,7 @@ module _ (P : Problem) (h v w : List ℤ) (r : BuildAnswer) (h₁ v₁ w₁ : Li
       (λ e. to (over-exactly x .0 (f .0 e)), λ s. f .1 (over-exactly x .1 (inr s)))
     where
       to : (false ≡ true) ⊎ SomeBeyond (written x) → SomeBeyond (written x)
-      to (inl e) = absurd (true-not-false e refl)
+      to (inl e) = absurd (false≢true e)
       to (inr s) = s
 
   pub range-exactly : (r .number ≡ 7) ↔ SomeBeyond (written (run-steps P))

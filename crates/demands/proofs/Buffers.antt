@@ -1,6 +1,6 @@
 -- Lent buffers: "On success the first entries are filled without gaps, row after row, and those after them are untouched." What a filled buffer
 -- holds, and that what is right for a problem may be read from buffers.
-use mathlib.Core.Path.{_≡_, refl, sym, _∙_, subst}
+use mathlib.Core.Path.{_≡_, refl, sym, _∙_}
 use mathlib.Core.List.{List}
 use Prim.Native.Nat.{ℕ, _+_, _*_, _≤_, _<_}
 use native.Mathlib.Omega.{arith}
@@ -8,10 +8,9 @@ use lib.Arith.{digits-lt}
 use lib.ListN.{length, drop, length-append, length-drop, List·getD-append}
 use lib.Seq.{drop-at}
 use lib.IntN.{ℤ, pos}
-use Rattle.whole.specs.Lists.{nth}
 use Rattle.whole.specs.Matrix.{Matrix}
 use Rattle.whole.proofs.Matrix.{mul-cong}
-use Rattle.rules.specs.Forms.{InRange, Hermite, Normal}
+use Rattle.rules.specs.Forms.{Hermite, Normal}
 use Rattle.rules.specs.Calls.{grid, filled}
 use Rattle.theory.proofs.MoreLists.{table, length-grid, table-grid}
 

@@ -4,18 +4,18 @@
 --
 -- `promise` is what the call's `ensures` says, whatever m, n and the lent bytes are; kept and out are the lent outputs before the call, kept₁ and out₁
 -- after it.
-use mathlib.Core.Path.{_≡_, refl, sym, _∙_, ap, ap₂, subst}
+use mathlib.Core.Path.{_≡_, refl, _∙_, ap, ap₂, subst}
 use mathlib.Core.Logic.{_↔_, _⊎_, inl, inr}
 use mathlib.Core.Bool.{Bool, true, _&&_}
 use mathlib.Core.List.{List}
-use Prim.Native.Nat.{ℕ, _+_, _-_, _*_, _%_, _≤_, _<_}
+use Prim.Native.Nat.{ℕ, _+_, _*_, _<_}
 use native.Mathlib.Omega.{arith}
 use lib.Dec.{leb}
 use lib.ListN.{length}
 use lib.IntN.{ℤ}
 use Rattle.whole.specs.Lists.{nth}
 use Rattle.rules.specs.Limits.{roomCoefficients, roomExponents}
-use Rattle.rules.specs.Problem.{Problem, N}
+use Rattle.rules.specs.Problem.{Problem}
 use Rattle.rules.specs.Stages.{run}
 use Rattle.rules.specs.Formulas.{Formula, terms, term, d, translated}
 use Rattle.rules.specs.Calls.{Check, Verdict, taken, refused, verdict, inputsCheck, outputsCheck, translateVerdict, problemFits, formulaFits}
@@ -112,7 +112,7 @@ pub row-3-c-translate : (kept out : List ℕ)
     → Row (outputsCheck (outputsOfCTranslate kept out)) 3 (OutputsInBytes kept out) (NotAt0 (OutputsInBytes kept out))
 row-3-c-translate kept out = row-at-0 3 (outputsOfCTranslate kept out) (OutputsInBytes kept out) (
   λ e. let a = and-true (hasRoom 64 kept) (hasRoom 1024 out) e in
-  record { kept-room = room-exactly 64 kept .0 (a .0); out-room = room-exactly 1024 out .0 (a .1) },
+      record { kept-room = room-exactly 64 kept .0 (a .0); out-room = room-exactly 1024 out .0 (a .1) },
   λ O. both (room-exactly 64 kept .1 (O .kept-room)) (room-exactly 1024 out .1 (O .out-room)),
 )
 

@@ -7,8 +7,8 @@
 -- are the lent outputs before the translation, kept₁ and out₁ after it.
 -- Accepted is of Answers, Free and translated (document 01's translated exponents) of rules/specs/Formulas.
 use mathlib.Core.Path.{_≡_, refl, sym, _∙_, ap, ap₂, subst}
-use mathlib.Core.Logic.{_≢_, _↔_, _⊎_, inl, inr}
-use mathlib.Core.Bool.{Bool, true, false, not, _&&_}
+use mathlib.Core.Logic.{_≢_, _↔_}
+use mathlib.Core.Bool.{Bool, true, _&&_}
 use mathlib.Core.List.{List, [], _∷_, _++_}
 use Prim.Native.Nat.{ℕ, _+_, _-_, _*_, _≤_, _<_}
 use native.Mathlib.Omega.{arith}
@@ -21,11 +21,11 @@ use Rattle.whole.specs.Sum.{sum}
 use Rattle.whole.proofs.Sum.{sum-cong}
 use Rattle.rules.specs.Limits.{M, roomCoefficients, roomExponents, exponentInRange, sizesInRange}
 use Rattle.rules.specs.Search.{Found, none, found}
-use Rattle.rules.specs.Problem.{Problem, WellFormed, s, N}
+use Rattle.rules.specs.Problem.{Problem, s, N}
 use Rattle.rules.specs.Stages.{run, H, U, W}
 use Rattle.rules.specs.Formulas.{Free, Formula, terms, term, d, translated, group}
-use Rattle.rules.specs.Calls.{Check, Verdict, taken, verdict, exponentsCheck, rangeCheck, termsCheck, translateVerdict, translateOf, translatedTo, translatedExponents, problemFits, formulaFits, buildOf}
-use Rattle.theory.proofs.MoreTests.{and-true, not-true}
+use Rattle.rules.specs.Calls.{Check, Verdict, taken, exponentsCheck, rangeCheck, termsCheck, translateVerdict, translateOf, translatedTo, translatedExponents, problemFits, formulaFits, buildOf}
+use Rattle.theory.proofs.MoreTests.{and-true}
 use Rattle.theory.proofs.MoreLists.{table, length-grid}
 use Rattle.theory.proofs.Accepted.{AllPass, unless-none, exponents-small}
 use Rattle.theory.proofs.Sizes.{room-for-exponents}
@@ -37,7 +37,7 @@ use Rattle.scaling.specs.declared.TranslateAnswer.{TranslateAnswer}
 use Rattle.scaling.specs.Checks.{problemChecks}
 use Rattle.scaling.specs.Answers.{Builds, Translates, RoomToTranslate, GoodFormula}
 use Rattle.demands.proofs.Order.{all-pass-append, taken-exactly, none-out-exactly, TermDecides, term-decides-exactly, all-terms-exactly}
-use Rattle.demands.proofs.Limits.{both, well-formed-exactly, formula-fits-exactly, exponent-exactly, unless-exactly, translate-room-exactly, limited-of}
+use Rattle.demands.proofs.Limits.{both, well-formed-exactly, formula-fits-exactly, exponent-exactly, range-exactly, unless-exactly, translate-room-exactly, limited-of}
 use Rattle.demands.proofs.Refusals.{Ordered, TranslateRefused, checksOfTranslate, translate-ordered}
 use Rattle.demands.proofs.Buffers.{KeepsRest, filled-keeps, table-filled}
 use Rattle.demands.proofs.Answers.{Accepted, width, build-answered}
@@ -75,12 +75,11 @@ module _ (P : Problem) (f : Formula) (kept out : List ℤ) where
   seven-pass A G R =
       let a = well-formed-exactly P .1 (A .well-formed) in
       let fits : inputs ≡ true = both (a .1) (formula-fits-exactly P f .1 (G .fits, G .few)) in
-      let small = none-out-exactly exponentInRange (f .exponents) .1 (λ i _. exponent-exactly (nth (f .exponents) i) .1 (G .small i)) in
-      (
+      let small = none-out-exactly exponentInRange (f .exponents) .1 (λ i _. exponent-exactly (nth (f .exponents) i) .1 (G .small i)) in (
         unless-exactly (sizesInRange (P .m) (P .n)) .1 (a .0),
         (
           unless-exactly inputs .1 fits,
-          (unless-exactly outputs .1 (translate-room-exactly kept out .1 R), (a .2, (a .3, (small, (rw (A .in-range), tt))))),
+          (unless-exactly outputs .1 (translate-room-exactly kept out .1 R), (a .2, (a .3, (small, (range-exactly (run P) .1 (A .in-range), tt))))),
         ),
       )
 
@@ -95,7 +94,7 @@ module _ (P : Problem) (f : Formula) (kept out : List ℤ) where
       let fits = formula-fits-exactly P f .0 (i .1) in (
         record {
           well-formed = well-formed-exactly P .0 (unless-none (sizesInRange (P .m) (P .n)) (a .0), i .0, a .1 .1 .1 .0, a .1 .1 .1 .1 .0);
-          in-range = not-true (run P .state .over) (unless-none (not (run P .state .over)) (a .1 .1 .1 .1 .1 .1 .0));
+          in-range = range-exactly (run P) .0 (a .1 .1 .1 .1 .1 .1 .0);
         },
         record { few = fits .1; fits = fits .0; small = exponents-small (f .exponents) (a .1 .1 .1 .1 .1 .0) },
         translate-room-exactly kept out .0 (unless-none outputs (a .1 .1 .0)),
@@ -106,8 +105,7 @@ module _ (P : Problem) (f : Formula) (kept out : List ℤ) where
 module _ (P : Problem) (f : Formula) (kept out : List ℤ) (a : TranslateAnswer) (kept₁ out₁ : List ℤ)
     (translates : Translates (translateOf P f kept out) a kept₁ out₁) where
   pub translated-exactly : Accepted P → GoodFormula P f → RoomToTranslate kept out
-      → (a .number ≡ 0)
-      ↔ ((t : ℕ) → t < terms f → Translatable P (term P f t))
+      → (a .number ≡ 0) ↔ ((t : ℕ) → t < terms f → Translatable P (term P f t))
   translated-exactly A G R =
       let D = translate-ordered P f kept out a kept₁ out₁ translates in (
         λ e. translated-of P f kept out (D .accepts-exactly .0 e) .3,

@@ -1,23 +1,23 @@
--- Demand 1: "Bad sizes, short buffers and numbers beyond their limits". Document 01, the table of checks, 1 to 6: each test is passed exactly when
+-- Demand 1: "Bad sizes, short buffers and numbers beyond their limits". Document 01, the table of checks, 1 to 7: each test is passed exactly when
 -- the limits hold, and a problem passes 1, 2, 4 and 5 exactly when it is well formed.
-use mathlib.Core.Path.{_≡_, refl, ap, subst}
+use mathlib.Core.Path.{_≡_, refl, ap}
 use mathlib.Core.Logic.{_↔_}
 use mathlib.Core.Bool.{Bool, true, false, not, _&&_}
-use mathlib.Core.List.{List, [], _∷_}
+use mathlib.Core.List.{List}
 use Prim.Native.Nat.{ℕ, _+_, _*_, _≤_}
-use native.Mathlib.Omega.{arith}
 use lib.Dec.{T, leb, eqb}
 use lib.ListN.{length}
 use lib.IntN.{ℤ, pos, negℤ, natAbs}
 use lib.Signed.{_≤ℤ_, leZ}
-use borrow.Author.Tests.{leb-true, le-leb, eqb-true, eq-eqb}
+use borrow.Author.Tests.{leb-true, le-leb, eqb-true, eq-eqb, not-true}
 use Rattle.whole.specs.Lists.{nth}
 use Rattle.whole.proofs.Order.{zarith, parts, P-neg, N-neg}
-use Rattle.rules.specs.Limits.{within, sizesInRange, modulusInRange, entryInRange, exponentInRange, mostTerms, roomH, roomV, roomW, roomWeights, roomCoefficients, roomExponents}
-use Rattle.rules.specs.Search.{Found, none, found}
+use Rattle.rules.specs.Limits.{within, sizesInRange, modulusInRange, entryInRange, exponentInRange, mostTerms, roomH, roomV, roomW, roomCoefficients, roomExponents}
+use Rattle.rules.specs.Search.{none}
 use Rattle.rules.specs.Problem.{Problem, WellFormed}
+use Rattle.rules.specs.Stages.{Run}
 use Rattle.rules.specs.Formulas.{Formula, terms}
-use Rattle.rules.specs.Calls.{unless, firstOut, problemFits, formulaFits}
+use Rattle.rules.specs.Calls.{unless, firstOut, rangeCheck, problemFits, formulaFits}
 use Rattle.theory.proofs.MoreTests.{and-true}
 use Rattle.theory.proofs.Sizes.{Limited}
 use Rattle.theory.proofs.Accepted.{unless-none, none-out, between, small}
@@ -58,17 +58,17 @@ formula-fits-exactly P f = (
 pub build-room-exactly : (h v w : List ℤ) → (leb roomH (length h) && leb roomV (length v) && leb roomW (length w) ≡ true) ↔ RoomToBuild h v w
 build-room-exactly h v w = (
   λ e.
-  let a = and-true (leb roomH (length h) && leb roomV (length v)) (leb roomW (length w)) e in
-  let b = and-true (leb roomH (length h)) (leb roomV (length v)) (a .0) in
-  record { h = leb-true roomH (length h) (b .0); v = leb-true roomV (length v) (b .1); w = leb-true roomW (length w) (a .1) },
+      let a = and-true (leb roomH (length h) && leb roomV (length v)) (leb roomW (length w)) e in
+      let b = and-true (leb roomH (length h)) (leb roomV (length v)) (a .0) in
+      record { h = leb-true roomH (length h) (b .0); v = leb-true roomV (length v) (b .1); w = leb-true roomW (length w) (a .1) },
   λ R. both (both (le-leb roomH (length h) (R .h)) (le-leb roomV (length v) (R .v))) (le-leb roomW (length w) (R .w)),
 )
 
 pub translate-room-exactly : (kept out : List ℤ) → (leb roomCoefficients (length kept) && leb roomExponents (length out) ≡ true) ↔ RoomToTranslate kept out
 translate-room-exactly kept out = (
   λ e.
-  let a = and-true (leb roomCoefficients (length kept)) (leb roomExponents (length out)) e in
-  record { kept = leb-true roomCoefficients (length kept) (a .0); translated = leb-true roomExponents (length out) (a .1) },
+      let a = and-true (leb roomCoefficients (length kept)) (leb roomExponents (length out)) e in
+      record { kept = leb-true roomCoefficients (length kept) (a .0); translated = leb-true roomExponents (length out) (a .1) },
   λ R. both (le-leb roomCoefficients (length kept) (R .kept)) (le-leb roomExponents (length out) (R .translated)),
 )
 
@@ -99,6 +99,10 @@ modulus-exactly z = (
       (b .0, omega (zarith, b .0, b .1, parts z)),
   λ h. both (leZ-is (pos 0) z (h .0)) (leZ-is z (pos 1000) (omega (zarith, h .1, parts z))),
 )
+
+-- ---- 7: "a step of the build writes a value beyond M either way", which the run's flag tells
+pub range-exactly : (u : Run) → (rangeCheck u .fault ≡ none) ↔ (u .state .over ≡ false)
+range-exactly u = (λ e. not-true (u .state .over) (unless-none (not (u .state .over)) e), λ o. rw o)
 
 -- ---- a problem passes 1, 2, 4 and 5 exactly when it is well formed
 abbrev pub PassesLimits : Problem → Type 0

@@ -3,27 +3,27 @@
 -- exactly when none does.
 use mathlib.Core.Path.{_≡_, refl, sym, _∙_, ap, subst}
 use mathlib.Core.Logic.{_≢_, _↔_, _⊎_, inl, inr}
-use mathlib.Core.Bool.{Bool, true, false, not, _||_}
+use mathlib.Core.Bool.{Bool, true, false, not, _||_, true≢false}
 use mathlib.Core.List.{List, [], _∷_, _++_, map}
-use Prim.Native.Nat.{ℕ, zero, suc, _≤_, _<_}
+use Prim.Native.Nat.{ℕ, _<_}
 use native.Mathlib.Omega.{arith}
 use native.Mathlib.Decide.{decLt}
 use lib.ListN.{length}
 use lib.IntN.{ℤ, natAbs}
+use borrow.Author.Tests.{not-true, not-false}
 use Rattle.whole.specs.Lists.{nth}
 use Rattle.whole.proofs.Tests.{Test, pass, fail, lt?, is-true, is-false}
 use Rattle.rules.specs.Limits.{M, beyond, sizesInRange}
-use Rattle.rules.specs.Search.{Found, none, found, orAt, first}
+use Rattle.rules.specs.Search.{Found, none, found, first}
 use Rattle.rules.specs.Problem.{Problem}
 use Rattle.rules.specs.Stages.{Run, run}
-use Rattle.rules.specs.Formulas.{Free, isFree, passes, d, translated, Formula, terms, term}
+use Rattle.rules.specs.Formulas.{Free, passes, d, translated, Formula, terms, term}
 use Rattle.rules.specs.Calls.{Check, Verdict, taken, refused, verdict, firstOut, moduliCheck, entriesCheck, exponentsCheck, rangeCheck, termsCheck, termsFault, termRefused, termNumber}
 use Rattle.rules.specs.Calls.{buildVerdict, weighVerdict, translateVerdict}
 use Rattle.theory.proofs.Search.{FirstIs, no-first, is-first, first-is}
 use Rattle.theory.proofs.MoreSearch.{Nowhere, Somewhere, none?, nowhere-found}
 use Rattle.theory.proofs.Weights.{isFree?, isFree-yes, isFree-no}
-use Rattle.theory.proofs.ExtraTests.{true-not-false}
-use Rattle.theory.proofs.MoreTests.{passed, failed, not-true, not-false}
+use Rattle.theory.proofs.MoreTests.{passed, failed}
 use Rattle.theory.proofs.Accepted.{AllPass, all-pass, TermAccepted}
 use Rattle.scaling.specs.Checks.{problemChecks}
 use Rattle.bench.proofs.Verdicts.{refusal-not-0, terms-numbered}
@@ -134,12 +134,12 @@ module _ (test : ℕ → Bool) (hi : ℕ) where
   found-by i F = go (first-is test 0 hi)
     where
       go : {x : Found} → FirstIs test 0 hi x → x ≡ found i
-      go (no-first z) = absurd (true-not-false (F .holds) (z i (record { low = omega arith; high = F .within })))
+      go (no-first z) = absurd (true≢false (sym (F .holds) ∙ z i (record { low = omega arith; high = F .within })))
       go (is-first k w t z) = ap found (at-one (decLt k i) (decLt i k))
         where
           at-one : Dec (k < i) → Dec (i < k) → k ≡ i
-          at-one (yes l) _ = absurd (true-not-false t (F .lower k l))
-          at-one (no _) (yes l) = absurd (true-not-false (F .holds) (z i (record { low = omega arith; high = l })))
+          at-one (yes l) _ = absurd (true≢false (sym t ∙ F .lower k l))
+          at-one (no _) (yes l) = absurd (true≢false (sym (F .holds) ∙ z i (record { low = omega arith; high = l })))
           at-one (no a) (no b) = omega arith
 
   pub found-exactly : (i : ℕ) → (first test 0 hi ≡ found i) ↔ FirstAt test hi i
@@ -153,7 +153,7 @@ module _ (test : ℕ → Bool) (hi : ℕ) where
     where
       go : {x : Found} → FirstIs test 0 hi x → x ≡ none
       go (no-first z) = refl
-      go (is-first k w t z) = absurd (true-not-false t (h k (w .high)))
+      go (is-first k w t z) = absurd (true≢false (sym t ∙ h k (w .high)))
 
   pub none-exactly : (first test 0 hi ≡ none) ↔ ((i : ℕ) → i < hi → test i ≡ false)
   none-exactly = (finds-none, none-found)
@@ -184,11 +184,12 @@ module _ (good : ℤ → Bool) (xs : List ℤ) where
   )
 
 -- ---- 8 and 9: "In one term 8 comes before 9; between terms the lower term decides."
--- term t is the first that is not taken: 8 where it is not free of dimension, 9 where it is and one of its translated exponents is beyond M
+-- 8: the term is not free of dimension; 9: it is, and one of its translated exponents is beyond M
 pub data TermFault (P : Problem) (u : Run) (v : ℕ → ℤ) : (number : ℕ) → Type 0 where
   not-free : ¬ Free P v → TermFault P u v 8
   beyond-M : Free P v → (g : ℕ) → g < d P u → M < natAbs (translated P u v g) → TermFault P u v 9
 
+-- term t is at fault, and no lower term is
 pub record TermDecides (P : Problem) (u : Run) (f : Formula) (number t : ℕ) : Type 0 where
   pub within : t < terms f
   pub fault : TermFault P u (term P f t) number
@@ -261,6 +262,13 @@ module _ (P : Problem) (u : Run) where
         none-of none e = refl
         none-of (found i) e = e
 
+    pub term-number : (t : ℕ) → termsCheck P u f .fault ≡ found t → (termsCheck P u f .number ≡ 8) ⊎ (termsCheck P u f .number ≡ 9)
+    term-number t e = go refl (term-decides-exactly (termsCheck P u f .number) t .0 (e, refl) .fault)
+      where
+        go : {k : ℕ} → termsCheck P u f .number ≡ k → TermFault P u (term P f t) k → (termsCheck P u f .number ≡ 8) ⊎ (termsCheck P u f .number ≡ 9)
+        go e (not-free n) = inl e
+        go e (beyond-M _ g l h) = inr e
+
 -- ---- the checks of each call, in order
 abbrev pub buildChecks : Problem → (inputs outputs : Bool) → List Check
 buildChecks P inputs outputs = problemChecks P inputs outputs ++ rangeCheck (run P) ∷ []
@@ -295,7 +303,7 @@ build-numbers P inputs outputs = refl
 pub weigh-numbers : (P : Problem) (es : List ℤ) (inputs outputs : Bool) → numbers (weighChecks P es inputs outputs) ≡ 1 ∷ 2 ∷ 3 ∷ 4 ∷ 5 ∷ 6 ∷ []
 weigh-numbers P es inputs outputs = refl
 
--- the last check of a translation has a number once it finds a fault
+-- the last check of a translation has the number 8 or 9 once it finds a fault (term-number)
 pub translate-numbers : (P : Problem) (f : Formula) (inputs outputs : Bool)
     → numbers (translateChecks P f inputs outputs) ≡ 1 ∷ 2 ∷ 3 ∷ 4 ∷ 5 ∷ 6 ∷ 7 ∷ termsCheck P (run P) f .number ∷ []
 translate-numbers P f inputs outputs = refl

@@ -4,11 +4,11 @@
 -- That every call ends is what the prover shows of each function before it counts as proved: every loop and every call of itself has a number that
 -- falls. None of the calls has a `requires`, so their promises hold on every input, and what stands here follows from a promise alone, for all m, n,
 -- lengths and numbers. `promise` below is what the call's `ensures` says, P the problem and f the formula as they were given, whatever they are; h, v, w
--- are the lent outputs before the call and h₁, v₁, w₁ after it.
--- Order says what it means that a list of checks is decided by a number and a place, and Limits what each check asks.
-use mathlib.Core.Path.{_≡_, refl, sym, _∙_}
+-- are the lent outputs before the call and h₁, v₁, w₁ after it. (Inputs are lent for reading only.)
+-- Order says what it means that a list of checks is decided by a number and a place, and Table what each check asks.
+use mathlib.Core.Path.{_≡_, refl}
 use mathlib.Core.Logic.{_≢_, _↔_, _⊎_, inl, inr}
-use mathlib.Core.Bool.{Bool, _&&_}
+use mathlib.Core.Bool.{_&&_}
 use mathlib.Core.List.{List}
 use Prim.Native.Nat.{ℕ}
 use lib.Dec.{leb, eqb}
@@ -23,10 +23,9 @@ use Rattle.theory.proofs.Accepted.{AllPass}
 use Rattle.scaling.specs.declared.BuildAnswer.{BuildAnswer}
 use Rattle.scaling.specs.declared.WeighAnswer.{WeighAnswer}
 use Rattle.scaling.specs.declared.TranslateAnswer.{TranslateAnswer}
-use Rattle.scaling.specs.Checks.{given}
-use Rattle.scaling.specs.Answers.{Builds, Weighs, Translates, formulaOf}
+use Rattle.scaling.specs.Answers.{Builds, Weighs, Translates}
 use Rattle.demands.proofs.Order.{DecidedBy, taken-exactly, refused-exactly, not-taken-and-refused, one-refusal}
-use Rattle.demands.proofs.Order.{buildChecks, build-checks, build-not-0, weighChecks, weigh-checks, weigh-not-0, translateChecks, translate-checks, translate-not-0}
+use Rattle.demands.proofs.Order.{buildChecks, build-not-0, weighChecks, weigh-not-0, translateChecks, translate-not-0}
 
 -- ---- what demand 1 says of a call, its checks and how it refuses
 pub record Ordered (checks : List Check) (number place : ℕ) (Refused : Type 0) : Type 0 where

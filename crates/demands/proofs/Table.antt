@@ -1,8 +1,8 @@
 -- Demand 1: "Bad sizes, short buffers and numbers beyond their limits are refused by number". Document 01's table of refusals, row by row: for each check
 -- when it finds no fault, and when it finds one at a place. (Order: the first check of a call that finds a fault decides.)
 use mathlib.Core.Path.{_≡_, refl, sym, _∙_, ap}
-use mathlib.Core.Logic.{_↔_, inl, inr}
-use mathlib.Core.Bool.{Bool, true, false, not, _&&_}
+use mathlib.Core.Logic.{_≢_, _↔_}
+use mathlib.Core.Bool.{Bool, true, false, not, _&&_, true≢false, false≢true}
 use mathlib.Core.List.{List}
 use Prim.Native.Nat.{ℕ, _*_, _<_, _≤_}
 use native.Mathlib.Omega.{arith}
@@ -19,7 +19,6 @@ use Rattle.rules.specs.Stages.{run}
 use Rattle.rules.specs.Formulas.{Formula, terms}
 use Rattle.rules.specs.Calls.{Check, unless, firstOut, problemFits, formulaFits}
 use Rattle.rules.specs.Calls.{sizesCheck, inputsCheck, outputsCheck, moduliCheck, entriesCheck, exponentsCheck, rangeCheck}
-use Rattle.theory.proofs.ExtraTests.{true-not-false}
 use Rattle.theory.proofs.MoreTests.{and-true}
 use Rattle.theory.proofs.Run.{run-steps}
 use Rattle.theory.proofs.Sequence.{written}
@@ -27,7 +26,7 @@ use Rattle.theory.proofs.Flag.{SomeBeyond, run-over}
 use Rattle.scaling.specs.Answers.{RoomToBuild, RoomToTranslate}
 use Rattle.scaling.proofs.Verdicts.{Sizes}
 use Rattle.demands.proofs.Order.{first-out-exactly, none-out-exactly}
-use Rattle.demands.proofs.Limits.{both, unless-exactly, at-least, sizes-exactly, problem-fits-exactly, formula-fits-exactly, modulus-exactly, entry-exactly, exponent-exactly}
+use Rattle.demands.proofs.Limits.{both, unless-exactly, at-least, sizes-exactly, problem-fits-exactly, formula-fits-exactly, modulus-exactly, entry-exactly, exponent-exactly, range-exactly}
 use Rattle.demands.proofs.Limits.{build-room-exactly, translate-room-exactly}
 
 -- a row of the table: no fault exactly when all is good, a fault at a place exactly when what is told of that place holds
@@ -49,7 +48,7 @@ row-at-0 number test Good e = record {
   where
     to : {place : ℕ} (b : Bool) → (b ≡ true) ↔ Good → unless b ≡ found place → NotAt0 Good place
     to true e f = let z : _≡_ {A = ℕ} 0 1 = cc in absurd (omega arith)
-    to {place} false e f = let p : place ≡ 0 = cc in (λ g. true-not-false (e .1 g) refl, p)
+    to {place} false e f = let p : place ≡ 0 = cc in (λ g. false≢true (e .1 g), p)
 
     back : {place : ℕ} (b : Bool) → (b ≡ true) ↔ Good → NotAt0 Good place → unless b ≡ found place
     back true e x = absurd (x .0 (e .0 refl))
@@ -74,12 +73,12 @@ row-first number test Good e xs = record {
   );
   given-exactly = λ i. (
     λ f.
-    let F = first-out-exactly test xs i .0 f in
-    record {
-      within = F .within;
-      bad = λ g. true-not-false (e (nth xs i) .1 g) (F .fails);
-      before = λ j l. e (nth xs j) .0 (F .before j l);
-    },
+        let F = first-out-exactly test xs i .0 f in
+        record {
+          within = F .within;
+          bad = λ g. true≢false (sym (e (nth xs i) .1 g) ∙ F .fails);
+          before = λ j l. e (nth xs j) .0 (F .before j l);
+        },
     λ B. first-out-exactly test xs i .1 (record {
       within = B .within;
       fails = fails (test (nth xs i)) (e (nth xs i)) (B .bad);
@@ -121,7 +120,7 @@ row-2-weigh P es =
 pub formula-lengths-exactly : (P : Problem) (f : Formula) → (problemFits P && formulaFits P f ≡ true) ↔ FormulaLengths P f
 formula-lengths-exactly P f = (
   λ e. let a = and-true (problemFits P) (formulaFits P f) e in
-  (problem-fits-exactly P .0 (a .0), formula-fits-exactly P f .0 (a .1) .0, formula-fits-exactly P f .0 (a .1) .1),
+      (problem-fits-exactly P .0 (a .0), formula-fits-exactly P f .0 (a .1) .0, formula-fits-exactly P f .0 (a .1) .1),
   λ l. both (problem-fits-exactly P .1 (l .0)) (formula-fits-exactly P f .1 (l .1, l .2)),
 )
 
@@ -167,20 +166,19 @@ pub row-7 : (P : Problem)
     → Row (rangeCheck (run P)) 7 (¬ SomeBeyond (written (run-steps P))) (λ place. SomeBeyond (written (run-steps P)) × (place ≡ 0))
 row-7 P = record {
   its-number = refl;
-  passes-exactly = (λ f s. true-not-false (run-over P .1 s) (clear (run P .state .over) f), λ d. calm (run P .state .over) (λ o. d (run-over P .0 o)));
+  passes-exactly = (
+    λ f s. true≢false (sym (run-over P .1 s) ∙ range-exactly (run P) .0 f),
+    λ d. range-exactly (run P) .1 (clear (run P .state .over) (λ o. d (run-over P .0 o))),
+  );
   given-exactly = λ place. (
     λ f. let x = set (run P .state .over) f in (run-over P .0 (x .0), x .1),
     λ x. ap (λ (b : Bool). unless (not b)) (run-over P .1 (x .0)) ∙ ap found (sym (x .1)),
   );
 }
   where
-    clear : (b : Bool) → unless (not b) ≡ none → b ≡ false
-    clear true f = let z : _≡_ {A = ℕ} 0 1 = cc in absurd (omega arith)
-    clear false f = refl
-
-    calm : (b : Bool) → ¬ (b ≡ true) → unless (not b) ≡ none
-    calm true d = absurd (d refl)
-    calm false d = refl
+    clear : (b : Bool) → b ≢ true → b ≡ false
+    clear true d = absurd (d refl)
+    clear false d = refl
 
     set : {place : ℕ} (b : Bool) → unless (not b) ≡ found place → (b ≡ true) × (place ≡ 0)
     set {place} true f = let p : place ≡ 0 = cc in (refl, p)
