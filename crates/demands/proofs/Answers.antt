@@ -32,8 +32,7 @@ use Rattle.scaling.specs.declared.BuildAnswer.{BuildAnswer}
 use Rattle.scaling.specs.Checks.{problemChecks}
 use Rattle.scaling.specs.Answers.{Builds, RoomToBuild}
 use Rattle.demands.proofs.Order.{DecidedBy, all-pass-append, taken-exactly}
-use Rattle.demands.proofs.Limits as Limits
-use Rattle.demands.proofs.Limits.{PassesLimits, well-formed-exactly, unless-exactly, build-room-exactly, limited-of}
+use Rattle.demands.proofs.Limits.{PassesLimits, well-formed-exactly, unless-exactly, flag-exactly, build-room-exactly, limited-of}
 use Rattle.demands.proofs.Refusals.{checksOfBuild, build-ordered}
 use Rattle.demands.proofs.Buffers.{KeepsRest, filled-keeps, table-filled, normal-same}
 
@@ -76,7 +75,7 @@ module _ (P : Problem) (h v w : List ℤ) where
       )
 
   all-pass-of : WellFormed P → RoomToBuild h v w → run P .state .over ≡ false → AllPass (checksOfBuild P h v w)
-  all-pass-of F R o = all-pass-append (problemChecks P (problemFits P) outputs) (rangeCheck (run P) ∷ []) (five-pass F R) (Limits.range-exactly (run P) .1 o, tt)
+  all-pass-of F R o = all-pass-append (problemChecks P (problemFits P) outputs) (rangeCheck (run P) ∷ []) (five-pass F R) (flag-exactly (run P) .1 o, tt)
 
   -- number 7: the checks before it find no fault
   refused-7 : WellFormed P → RoomToBuild h v w → run P .state .over ≡ true → DecidedBy (checksOfBuild P h v w) 7 0
@@ -100,7 +99,7 @@ module _ (P : Problem) (h v w : List ℤ) where
       ) in (
         record {
           well-formed = well-formed-exactly P .0 fits;
-          in-range = Limits.range-exactly (run P) .0 (a .1 .1 .1 .1 .1 .0);
+          in-range = flag-exactly (run P) .0 (a .1 .1 .1 .1 .1 .0);
         },
         build-room-exactly h v w .0 (unless-none outputs (a .1 .1 .0)),
       )

@@ -37,7 +37,7 @@ use Rattle.scaling.specs.declared.TranslateAnswer.{TranslateAnswer}
 use Rattle.scaling.specs.Checks.{problemChecks}
 use Rattle.scaling.specs.Answers.{Builds, Translates, RoomToTranslate, GoodFormula}
 use Rattle.demands.proofs.Order.{all-pass-append, taken-exactly, none-out-exactly, TermDecides, term-decides-exactly, all-terms-exactly}
-use Rattle.demands.proofs.Limits.{both, well-formed-exactly, formula-fits-exactly, exponent-exactly, range-exactly, unless-exactly, translate-room-exactly, limited-of}
+use Rattle.demands.proofs.Limits.{both, well-formed-exactly, formula-fits-exactly, exponent-exactly, flag-exactly, unless-exactly, translate-room-exactly, limited-of}
 use Rattle.demands.proofs.Refusals.{Ordered, TranslateRefused, checksOfTranslate, translate-ordered}
 use Rattle.demands.proofs.Buffers.{KeepsRest, filled-keeps, table-filled}
 use Rattle.demands.proofs.Answers.{Accepted, width, build-answered}
@@ -79,7 +79,7 @@ module _ (P : Problem) (f : Formula) (kept out : List ℤ) where
         unless-exactly (sizesInRange (P .m) (P .n)) .1 (a .0),
         (
           unless-exactly inputs .1 fits,
-          (unless-exactly outputs .1 (translate-room-exactly kept out .1 R), (a .2, (a .3, (small, (range-exactly (run P) .1 (A .in-range), tt))))),
+          (unless-exactly outputs .1 (translate-room-exactly kept out .1 R), (a .2, (a .3, (small, (flag-exactly (run P) .1 (A .in-range), tt))))),
         ),
       )
 
@@ -94,7 +94,7 @@ module _ (P : Problem) (f : Formula) (kept out : List ℤ) where
       let fits = formula-fits-exactly P f .0 (i .1) in (
         record {
           well-formed = well-formed-exactly P .0 (unless-none (sizesInRange (P .m) (P .n)) (a .0), i .0, a .1 .1 .1 .0, a .1 .1 .1 .1 .0);
-          in-range = range-exactly (run P) .0 (a .1 .1 .1 .1 .1 .1 .0);
+          in-range = flag-exactly (run P) .0 (a .1 .1 .1 .1 .1 .1 .0);
         },
         record { few = fits .1; fits = fits .0; small = exponents-small (f .exponents) (a .1 .1 .1 .1 .1 .0) },
         translate-room-exactly kept out .0 (unless-none outputs (a .1 .1 .0)),

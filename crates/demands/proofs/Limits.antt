@@ -101,8 +101,8 @@ modulus-exactly z = (
 )
 
 -- ---- 7: "a step of the build writes a value beyond M either way", which the run's flag tells
-pub range-exactly : (u : Run) → (rangeCheck u .fault ≡ none) ↔ (u .state .over ≡ false)
-range-exactly u = (λ e. not-true (u .state .over) (unless-none (not (u .state .over)) e), λ o. rw o)
+pub flag-exactly : (u : Run) → (rangeCheck u .fault ≡ none) ↔ (u .state .over ≡ false)
+flag-exactly u = (λ e. not-true (u .state .over) (unless-none (not (u .state .over)) e), λ o. rw o)
 
 -- ---- a problem passes 1, 2, 4 and 5 exactly when it is well formed
 abbrev pub PassesLimits : Problem → Type 0

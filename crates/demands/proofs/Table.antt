@@ -26,7 +26,7 @@ use Rattle.theory.proofs.Flag.{SomeBeyond, run-over}
 use Rattle.scaling.specs.Answers.{RoomToBuild, RoomToTranslate}
 use Rattle.scaling.proofs.Verdicts.{Sizes}
 use Rattle.demands.proofs.Order.{first-out-exactly, none-out-exactly}
-use Rattle.demands.proofs.Limits.{both, unless-exactly, at-least, sizes-exactly, problem-fits-exactly, formula-fits-exactly, modulus-exactly, entry-exactly, exponent-exactly, range-exactly}
+use Rattle.demands.proofs.Limits.{both, unless-exactly, at-least, sizes-exactly, problem-fits-exactly, formula-fits-exactly, modulus-exactly, entry-exactly, exponent-exactly, flag-exactly}
 use Rattle.demands.proofs.Limits.{build-room-exactly, translate-room-exactly}
 
 -- a row of the table: no fault exactly when all is good, a fault at a place exactly when what is told of that place holds
@@ -167,8 +167,8 @@ pub row-7 : (P : Problem)
 row-7 P = record {
   its-number = refl;
   passes-exactly = (
-    λ f s. true≢false (sym (run-over P .1 s) ∙ range-exactly (run P) .0 f),
-    λ d. range-exactly (run P) .1 (clear (run P .state .over) (λ o. d (run-over P .0 o))),
+    λ f s. true≢false (sym (run-over P .1 s) ∙ flag-exactly (run P) .0 f),
+    λ d. flag-exactly (run P) .1 (clear (run P .state .over) (λ o. d (run-over P .0 o))),
   );
   given-exactly = λ place. (
     λ f. let x = set (run P .state .over) f in (run-over P .0 (x .0), x .1),
