@@ -5,7 +5,7 @@
 -- `promise` is what the call's `ensures` says, whatever m, n and the lent bytes are; kept and out are the lent outputs before the call, kept₁ and out₁
 -- after it.
 use mathlib.Core.Path.{_≡_, refl, _∙_, ap, ap₂, subst}
-use mathlib.Core.Logic.{_↔_, _⊎_, inl, inr}
+use mathlib.Core.Logic.{_≢_, _↔_, _⊎_, inl, inr}
 use mathlib.Core.Bool.{Bool, true, _&&_}
 use mathlib.Core.List.{List}
 use Prim.Native.Nat.{ℕ, _+_, _*_, _<_}
@@ -33,13 +33,13 @@ use Rattle.scaling.specs.Answers as scaling
 use Rattle.scaling.specs.Answers.{RoomToTranslate, GoodFormula}
 use Rattle.bench.specs.Answers.{Builds, Translates}
 use Rattle.bench.proofs.Bytes.{length-longs}
-use Rattle.demands.proofs.Order.{taken-exactly, refused-exactly, translateChecks, translate-not-0}
+use Rattle.demands.proofs.Order.{taken-exactly, refused-exactly, TermDecides, translateChecks, translate-not-0}
 use Rattle.demands.proofs.Limits.{both, limited-of}
 use Rattle.demands.proofs.Table.{Row, NotAt0, row-at-0, FormulaLengths, formula-lengths-exactly}
 use Rattle.demands.proofs.Refusals.{Ordered, ordered, TranslateRefused, checksOfTranslate}
 use Rattle.demands.proofs.Buffers.{KeepsRest}
 use Rattle.demands.proofs.Answers.{Accepted}
-use Rattle.demands.proofs.Formulas.{Translatable, translated-of, FormulaTranslated, translated-exactly, formula-translated, backIn, first-formula-returns, no-other-exponents}
+use Rattle.demands.proofs.Formulas.{Translatable, translated-of, FormulaTranslated, translated-exactly, else-term-refused, formula-translated, backIn, first-formula-returns, no-other-exponents}
 use Rattle.demands.proofs.Bytes.{AllFit, numbers-filled, bytes-keep, numbers-fit, grid-fits}
 use Rattle.demands.proofs.CBuild.{Whole, RoomIn, whole-exactly, room-exactly, room-same, c-build-is-build, c-build-whole}
 
@@ -238,12 +238,19 @@ module _ (m n : ℕ) (matrix moduli cs es kept out : List ℕ) (a : TranslateAns
   c-translated-exactly F A G R =
       translated-exactly P f (numbersOf kept) (numbersOf out) a (numbersOf kept₁) (numbersOf out₁) (c-translate-is-translate F) A G R
 
+  pub c-else-term-refused : WholeToTranslate matrix moduli cs es kept out → Accepted (problemOf m n matrix moduli)
+      → GoodFormula (problemOf m n matrix moduli) (formulaOf cs es) → RoomToTranslate (numbersOf kept) (numbersOf out) → a .number ≢ 0
+      → TermDecides (problemOf m n matrix moduli) (run (problemOf m n matrix moduli)) (formulaOf cs es) (a .number) (a .place)
+  c-else-term-refused F A G R =
+      else-term-refused P f (numbersOf kept) (numbersOf out) a (numbersOf kept₁) (numbersOf out₁) (c-translate-is-translate F) A G R
+
+  -- "coefficients and order kept", in the numbers that the bytes are
   pub c-formula-translated : a .number ≡ 0
       → FormulaTranslated (problemOf m n matrix moduli) (formulaOf cs es) (numbersOf kept) (numbersOf out) a (numbersOf kept₁) (numbersOf out₁)
   c-formula-translated e =
       formula-translated P f (numbersOf kept) (numbersOf out) a (numbersOf kept₁) (numbersOf out₁) (c-translate-is-translate (c-translate-whole e)) e
 
-  -- "coefficients and order kept", and every byte after the coefficients and after the exponents untouched
+  -- and every byte after the coefficients and after the exponents is untouched
   pub c-translate-rest : a .number ≡ 0
       → KeepsRest (4 * terms (formulaOf cs es)) kept kept₁ × KeepsRest (4 * (terms (formulaOf cs es) * a .d)) out out₁
   unfolding translatedExponents
