@@ -14,14 +14,14 @@ use lib.Dec.{leb}
 use lib.ListN.{length}
 use lib.IntN.{ℤ}
 use Rattle.whole.specs.Matrix.{Matrix}
-use Rattle.rules.specs.Limits.{roomH, roomV, roomW, sizesInRange}
+use Rattle.rules.specs.Limits.{roomH, roomV, roomW}
 use Rattle.rules.specs.Problem.{Problem, WellFormed, s, N, columns}
 use Rattle.rules.specs.Forms.{Right}
 use Rattle.rules.specs.Steps.{start}
 use Rattle.rules.specs.Stages.{run, H, U, W}
-use Rattle.rules.specs.Calls.{Verdict, taken, rangeCheck, buildVerdict, buildOf, built, problemFits, contentsH, contentsV, contentsW}
+use Rattle.rules.specs.Calls.{Check, Verdict, taken, rangeCheck, buildVerdict, buildOf, built, problemFits, contentsH, contentsV, contentsW}
 use Rattle.theory.proofs.MoreLists.{table, length-grid}
-use Rattle.theory.proofs.Accepted.{AllPass, unless-none}
+use Rattle.theory.proofs.Accepted.{AllPass}
 use Rattle.theory.proofs.Unique.{Alike, normal-unique}
 use Rattle.theory.proofs.Sizes.{room-for-H, room-for-V, room-for-W}
 use Rattle.theory.proofs.Run.{run-right, run-steps}
@@ -32,7 +32,7 @@ use Rattle.scaling.specs.declared.BuildAnswer.{BuildAnswer}
 use Rattle.scaling.specs.Checks.{problemChecks}
 use Rattle.scaling.specs.Answers.{Builds, RoomToBuild}
 use Rattle.demands.proofs.Order.{DecidedBy, all-pass-append, taken-exactly}
-use Rattle.demands.proofs.Limits.{PassesLimits, well-formed-exactly, unless-exactly, flag-exactly, build-room-exactly, limited-of}
+use Rattle.demands.proofs.Limits.{five-exactly, flag-exactly, build-room-exactly, limited-of}
 use Rattle.demands.proofs.Refusals.{checksOfBuild, build-ordered}
 use Rattle.demands.proofs.Buffers.{KeepsRest, filled-keeps, table-filled, normal-same}
 
@@ -64,55 +64,45 @@ pub record Answered (P : Problem) (h v w : List ℤ) (r : BuildAnswer) (h₁ v�
 
 -- ---- the checks of a build, from what they ask
 module _ (P : Problem) (h v w : List ℤ) where
-  abbrev outputs : Bool
-  outputs = leb roomH (length h) && leb roomV (length v) && leb roomW (length w)
+  abbrev five : List Check
+  five = problemChecks P (problemFits P) (leb roomH (length h) && leb roomV (length v) && leb roomW (length w))
 
-  five-pass : WellFormed P → RoomToBuild h v w → AllPass (problemChecks P (problemFits P) outputs)
-  five-pass F R =
-      let a = well-formed-exactly P .1 F in (
-        unless-exactly (sizesInRange (P .m) (P .n)) .1 (a .0),
-        (unless-exactly (problemFits P) .1 (a .1), (unless-exactly outputs .1 (build-room-exactly h v w .1 R), (a .2, (a .3, tt)))),
-      )
+  five-pass-exactly : AllPass five ↔ (WellFormed P × Unit {0} × RoomToBuild h v w)
+  five-pass-exactly =
+      five-exactly P (problemFits P) (leb roomH (length h) && leb roomV (length v) && leb roomW (length w)) (λ e. (e, tt), λ x. x .0)
+      (build-room-exactly h v w)
 
-  all-pass-of : WellFormed P → RoomToBuild h v w → run P .state .over ≡ false → AllPass (checksOfBuild P h v w)
-  all-pass-of F R o = all-pass-append (problemChecks P (problemFits P) outputs) (rangeCheck (run P) ∷ []) (five-pass F R) (flag-exactly (run P) .1 o, tt)
+  pub all-pass-exactly : AllPass (checksOfBuild P h v w) ↔ (Accepted P × RoomToBuild h v w)
+  all-pass-exactly = (
+    λ a.
+        let b = all-pass-append five (rangeCheck (run P) ∷ []) .0 a in
+        let x = five-pass-exactly .0 (b .0) in
+        (record { well-formed = x .0; in-range = flag-exactly (run P) .0 (b .1 .0) }, x .2),
+    λ x.
+        let a = five-pass-exactly .1 (x .0 .well-formed, tt, x .1) in
+        all-pass-append five (rangeCheck (run P) ∷ []) .1 (a, (flag-exactly (run P) .1 (x .0 .in-range), tt)),
+  )
 
   -- number 7: the checks before it find no fault
   refused-7 : WellFormed P → RoomToBuild h v w → run P .state .over ≡ true → DecidedBy (checksOfBuild P h v w) 7 0
   refused-7 F R o = record {
-    before = problemChecks P (problemFits P) outputs;
+    before = five;
     check = rangeCheck (run P);
     after = [];
     listed = refl;
-    faultless = five-pass F R;
+    faultless = five-pass-exactly .1 (F, tt, R);
     its-number = refl;
     its-place = rw o;
   }
-
-  pub accepted-of : AllPass (checksOfBuild P h v w) → Accepted P × RoomToBuild h v w
-  accepted-of a =
-      let fits : PassesLimits P = (
-        unless-none (sizesInRange (P .m) (P .n)) (a .0),
-        unless-none (problemFits P) (a .1 .0),
-        a .1 .1 .1 .0,
-        a .1 .1 .1 .1 .0,
-      ) in (
-        record {
-          well-formed = well-formed-exactly P .0 fits;
-          in-range = flag-exactly (run P) .0 (a .1 .1 .1 .1 .1 .0);
-        },
-        build-room-exactly h v w .0 (unless-none outputs (a .1 .1 .0)),
-      )
 
 -- ---- demand 2
 module _ (P : Problem) (h v w : List ℤ) (r : BuildAnswer) (h₁ v₁ w₁ : List ℤ) (promise : Builds (buildOf P h v w) r h₁ v₁ w₁) where
   -- the number is 0 exactly when the problem is accepted and the outputs have room
   pub build-accepted-exactly : (r .number ≡ 0) ↔ (Accepted P × RoomToBuild h v w)
   build-accepted-exactly =
-      let D = build-ordered P h v w r h₁ v₁ w₁ promise in (
-        λ e. accepted-of P h v w (D .accepts-exactly .0 e),
-        λ a. D .accepts-exactly .1 (all-pass-of P h v w (a .0 .well-formed) (a .1) (a .0 .in-range)),
-      )
+      let D = build-ordered P h v w r h₁ v₁ w₁ promise in
+      let A = all-pass-exactly P h v w in
+      (λ e. A .0 (D .accepts-exactly .0 e), λ a. D .accepts-exactly .1 (A .1 a))
 
   as-taken : r .number ≡ 0 → Builds (built P h v w taken) r h₁ v₁ w₁
   unfolding buildOf buildVerdict

@@ -32,11 +32,11 @@ use Rattle.scaling.specs.Answers.{RoomToBuild}
 use Rattle.bench.specs.Answers.{Builds}
 use Rattle.bench.proofs.Bytes.{length-longs}
 use Rattle.demands.proofs.Order.{taken-exactly, refused-exactly, buildChecks, build-not-0}
-use Rattle.demands.proofs.Limits.{both, at-least, problem-fits-exactly, limited-of}
-use Rattle.demands.proofs.Table.{Row, NotAt0, row-at-0, and-exactly, ProblemLengths}
+use Rattle.demands.proofs.Limits.{both, and-exactly, at-least, problem-fits-exactly, limited-of}
+use Rattle.demands.proofs.Table.{Row, NotAt0, row-at-0, ProblemLengths}
 use Rattle.demands.proofs.Refusals.{Ordered, ordered, BuildRefused, checksOfBuild}
 use Rattle.demands.proofs.Buffers.{KeepsRest}
-use Rattle.demands.proofs.Answers.{Answered, width, accepted-of, build-accepted-exactly, build-answered, range-exactly, taken-or-range}
+use Rattle.demands.proofs.Answers.{Answered, width, all-pass-exactly, build-accepted-exactly, build-answered, range-exactly, taken-or-range}
 use Rattle.demands.proofs.Bytes.{numbers-filled, bytes-keep, H-fits, V-fits, W-fits}
 
 -- ---- glaukemis_build: demand 1
@@ -190,7 +190,7 @@ module _ (m n : ℕ) (matrix moduli h v w : List ℕ) (r : BuildAnswer) (h₁ v�
       go : (x : Verdict) → verdict checks ≡ x → Builds (benchBuilt P h v w x) r h₁ v₁ w₁
           → scaling.Builds (built P (numbersOf h) (numbersOf v) (numbersOf w) x) r (numbersOf h₁) (numbersOf v₁) (numbersOf w₁)
       go taken e B =
-          let A = accepted-of P (numbersOf h) (numbersOf v) (numbersOf w) (taken-exactly checks .0 e) in
+          let A = all-pass-exactly P (numbersOf h) (numbersOf v) (numbersOf w) .0 (taken-exactly checks .0 e) in
           let G = A .0 .well-formed in
           let o = A .0 .in-range in
           let L = limited-of G in

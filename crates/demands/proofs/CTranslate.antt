@@ -30,7 +30,6 @@ use Rattle.theory.proofs.Sizes.{room-for-exponents}
 use Rattle.scaling.specs.declared.BuildAnswer.{BuildAnswer}
 use Rattle.scaling.specs.declared.TranslateAnswer.{TranslateAnswer}
 use Rattle.scaling.specs.Answers as scaling
-use Rattle.scaling.specs.Answers.{RoomToTranslate, GoodFormula}
 use Rattle.bench.specs.Answers.{Builds, Translates}
 use Rattle.bench.proofs.Bytes.{length-longs}
 use Rattle.demands.proofs.Order.{taken-exactly, refused-exactly, TermDecides, translateChecks, translate-not-0}
@@ -38,8 +37,7 @@ use Rattle.demands.proofs.Limits.{both, limited-of}
 use Rattle.demands.proofs.Table.{Row, NotAt0, row-at-0, FormulaLengths, formula-lengths-exactly}
 use Rattle.demands.proofs.Refusals.{Ordered, ordered, TranslateRefused, checksOfTranslate}
 use Rattle.demands.proofs.Buffers.{KeepsRest}
-use Rattle.demands.proofs.Answers.{Accepted}
-use Rattle.demands.proofs.Formulas.{Translatable, translated-of, FormulaTranslated, translated-exactly, else-term-refused, formula-translated, backIn, first-formula-returns, no-other-exponents}
+use Rattle.demands.proofs.Formulas.{Translatable, Asked, all-pass-exactly, FormulaTranslated, translated-exactly, else-term-refused, formula-translated, backIn, first-formula-returns, no-other-exponents}
 use Rattle.demands.proofs.Bytes.{AllFit, numbers-filled, bytes-keep, numbers-fit, grid-fits}
 use Rattle.demands.proofs.CBuild.{Whole, RoomIn, whole-exactly, room-exactly, room-same, c-build-is-build, c-build-whole}
 
@@ -196,16 +194,16 @@ module _ (m n : ℕ) (matrix moduli cs es kept out : List ℕ) (a : TranslateAns
       go : (x : Verdict) → verdict onNumbers ≡ x → Translates (benchTranslated P f kept out x) a kept₁ out₁
           → scaling.Translates (translatedTo P f (numbersOf kept) (numbersOf out) x) a (numbersOf kept₁) (numbersOf out₁)
       go taken e B =
-          let A = translated-of P f (numbersOf kept) (numbersOf out) (taken-exactly onNumbers .0 e) in
-          let L = limited-of (A .0 .well-formed) in
+          let A = all-pass-exactly P f (numbersOf kept) (numbersOf out) .0 (taken-exactly onNumbers .0 e) in
+          let L = limited-of (A .0 .accepted .well-formed) in
           record {
             number = B .number;
             place = B .place;
             d = B .d;
             kept = ap numbersOf (B .kept) ∙ numbers-filled (f .coefficients) kept (numbers-fit cs)
-                (omega (arith, A .1 .few, A .2 .kept, length-longs (numbersIn kept) kept));
-            translated = ap numbersOf (B .translated) ∙ numbers-filled (translatedExponents P f) out (exponents-fit P f (A .3))
-                (omega (arith, room-for-exponents P L (run-right P) f (A .1 .few), A .2 .translated, length-longs (numbersIn out) out));
+                (omega (arith, A .0 .formula .few, A .0 .room .kept, length-longs (numbersIn kept) kept));
+            translated = ap numbersOf (B .translated) ∙ numbers-filled (translatedExponents P f) out (exponents-fit P f (A .1))
+                (omega (arith, room-for-exponents P L (run-right P) f (A .0 .formula .few), A .0 .room .translated, length-longs (numbersIn out) out));
           }
       go (refused number place) e B = record {
         number = B .number;
@@ -232,17 +230,17 @@ module _ (m n : ℕ) (matrix moduli cs es kept out : List ℕ) (a : TranslateAns
 
   -- ---- demand 3
   -- "it is translated exactly if each term is free of dimension and no translated exponent passes 2,147,483,647 either way"
-  pub c-translated-exactly : WholeToTranslate matrix moduli cs es kept out → Accepted (problemOf m n matrix moduli)
-      → GoodFormula (problemOf m n matrix moduli) (formulaOf cs es) → RoomToTranslate (numbersOf kept) (numbersOf out)
+  pub c-translated-exactly : WholeToTranslate matrix moduli cs es kept out
+      → Asked (problemOf m n matrix moduli) (formulaOf cs es) (numbersOf kept) (numbersOf out)
       → (a .number ≡ 0) ↔ ((t : ℕ) → t < terms (formulaOf cs es) → Translatable (problemOf m n matrix moduli) (term (problemOf m n matrix moduli) (formulaOf cs es) t))
-  c-translated-exactly F A G R =
-      translated-exactly P f (numbersOf kept) (numbersOf out) a (numbersOf kept₁) (numbersOf out₁) (c-translate-is-translate F) A G R
+  c-translated-exactly F A =
+      translated-exactly P f (numbersOf kept) (numbersOf out) a (numbersOf kept₁) (numbersOf out₁) (c-translate-is-translate F) A
 
-  pub c-else-term-refused : WholeToTranslate matrix moduli cs es kept out → Accepted (problemOf m n matrix moduli)
-      → GoodFormula (problemOf m n matrix moduli) (formulaOf cs es) → RoomToTranslate (numbersOf kept) (numbersOf out) → a .number ≢ 0
+  pub c-else-term-refused : WholeToTranslate matrix moduli cs es kept out
+      → Asked (problemOf m n matrix moduli) (formulaOf cs es) (numbersOf kept) (numbersOf out) → a .number ≢ 0
       → TermDecides (problemOf m n matrix moduli) (run (problemOf m n matrix moduli)) (formulaOf cs es) (a .number) (a .place)
-  c-else-term-refused F A G R =
-      else-term-refused P f (numbersOf kept) (numbersOf out) a (numbersOf kept₁) (numbersOf out₁) (c-translate-is-translate F) A G R
+  c-else-term-refused F A =
+      else-term-refused P f (numbersOf kept) (numbersOf out) a (numbersOf kept₁) (numbersOf out₁) (c-translate-is-translate F) A
 
   -- "coefficients and order kept", in the numbers that the bytes are
   pub c-formula-translated : a .number ≡ 0
@@ -258,12 +256,12 @@ module _ (m n : ℕ) (matrix moduli cs es kept out : List ℕ) (a : TranslateAns
       let B = subst (λ (x : Verdict). Translates (benchTranslated P f kept out x) a kept₁ out₁)
       (taken-exactly checks .1 (c-translate-ordered .accepts-exactly .0 e)) by-verdict in
       let F = c-formula-translated e in
-      let L = limited-of (F .accepted .well-formed) in
-      let few = F .formula .few in
+      let L = limited-of (F .asked .accepted .well-formed) in
+      let few = F .asked .formula .few in
       let l = length-grid (terms f) (d P (run P)) (λ t g. translated P (run P) (term P f t) g) in (
-        rw (B .kept) (bytes-keep (terms f) (f .coefficients) kept refl (omega (arith, few, F .room .kept, length-longs (numbersIn kept) kept))),
+        rw (B .kept) (bytes-keep (terms f) (f .coefficients) kept refl (omega (arith, few, F .asked .room .kept, length-longs (numbersIn kept) kept))),
         rw (B .d, B .translated) (bytes-keep (terms f * d P (run P)) (translatedExponents P f) out l
-            (omega (arith, l, room-for-exponents P L (run-right P) f few, F .room .translated, length-longs (numbersIn out) out))),
+            (omega (arith, l, room-for-exponents P L (run-right P) f few, F .asked .room .translated, length-longs (numbersIn out) out))),
       )
 
   -- the same problem built, in the bytes h, v, w

@@ -8,7 +8,7 @@
 -- Accepted is of Answers, Free and translated (document 01's translated exponents) of rules/specs/Formulas.
 use mathlib.Core.Path.{_≡_, refl, sym, _∙_, ap, ap₂, subst}
 use mathlib.Core.Logic.{_≢_, _↔_}
-use mathlib.Core.Bool.{Bool, true, _&&_}
+use mathlib.Core.Bool.{_&&_}
 use mathlib.Core.List.{List, [], _∷_, _++_}
 use Prim.Native.Nat.{ℕ, _+_, _-_, _*_, _≤_, _<_}
 use native.Mathlib.Omega.{arith}
@@ -19,15 +19,14 @@ use Rattle.whole.specs.Lists.{nth}
 use Rattle.whole.specs.Matrix.{Matrix}
 use Rattle.whole.specs.Sum.{sum}
 use Rattle.whole.proofs.Sum.{sum-cong}
-use Rattle.rules.specs.Limits.{M, roomCoefficients, roomExponents, exponentInRange, sizesInRange}
+use Rattle.rules.specs.Limits.{M, roomCoefficients, roomExponents}
 use Rattle.rules.specs.Search.{Found, none, found}
-use Rattle.rules.specs.Problem.{Problem, s, N}
+use Rattle.rules.specs.Problem.{Problem, WellFormed, s, N}
 use Rattle.rules.specs.Stages.{run, H, U, W}
 use Rattle.rules.specs.Formulas.{Free, Formula, terms, term, d, translated, group}
 use Rattle.rules.specs.Calls.{Check, Verdict, taken, exponentsCheck, rangeCheck, termsCheck, translateVerdict, translateOf, translatedTo, translatedExponents, problemFits, formulaFits, buildOf}
-use Rattle.theory.proofs.MoreTests.{and-true}
 use Rattle.theory.proofs.MoreLists.{table, length-grid}
-use Rattle.theory.proofs.Accepted.{AllPass, unless-none, exponents-small}
+use Rattle.theory.proofs.Accepted.{AllPass, exponents-small}
 use Rattle.theory.proofs.Sizes.{room-for-exponents}
 use Rattle.theory.proofs.Unique.{Alike}
 use Rattle.theory.proofs.Run.{run-right}
@@ -36,11 +35,18 @@ use Rattle.scaling.specs.declared.BuildAnswer.{BuildAnswer}
 use Rattle.scaling.specs.declared.TranslateAnswer.{TranslateAnswer}
 use Rattle.scaling.specs.Checks.{problemChecks}
 use Rattle.scaling.specs.Answers.{Builds, Translates, RoomToTranslate, GoodFormula}
-use Rattle.demands.proofs.Order.{all-pass-append, taken-exactly, none-out-exactly, TermDecides, term-decides-exactly, all-terms-exactly}
-use Rattle.demands.proofs.Limits.{both, well-formed-exactly, formula-fits-exactly, exponent-exactly, flag-exactly, unless-exactly, translate-room-exactly, limited-of}
+use Rattle.demands.proofs.Order.{all-pass-append, taken-exactly, TermDecides, term-decides-exactly, all-terms-exactly}
+use Rattle.demands.proofs.Limits.{and-exactly, five-exactly, formula-fits-exactly, flag-exactly, translate-room-exactly, limited-of}
+use Rattle.demands.proofs.Table.{row-6}
 use Rattle.demands.proofs.Refusals.{Ordered, TranslateRefused, checksOfTranslate, translate-ordered}
 use Rattle.demands.proofs.Buffers.{KeepsRest, filled-keeps, table-filled}
 use Rattle.demands.proofs.Answers.{Accepted, width, build-answered}
+
+-- ---- "every accepted problem and every formula of at most 64 terms with exponents from -10,000 to 10,000, lent room enough"
+pub record Asked (P : Problem) (f : Formula) (kept out : List ℤ) : Type 0 where
+  pub accepted : Accepted P
+  pub formula : GoodFormula P f
+  pub room : RoomToTranslate kept out
 
 -- ---- "free of dimension and no translated exponent passes 2,147,483,647 either way"; there are d = N - r of them
 abbrev pub Translatable : Problem → (ℕ → ℤ) → Type 0
@@ -48,9 +54,7 @@ Translatable P v = Free P v × ((g : ℕ) → g < N P - run P .rank → natAbs (
 
 -- ---- what a translated formula is, in the lent buffers
 pub record FormulaTranslated (P : Problem) (f : Formula) (kept out : List ℤ) (a : TranslateAnswer) (kept₁ out₁ : List ℤ) : Type 0 where
-  pub accepted : Accepted P
-  pub formula : GoodFormula P f
-  pub room : RoomToTranslate kept out
+  pub asked : Asked P f kept out
   pub free : (t : ℕ) → t < terms f → Free P (term P f t)
   -- "the translation returns d"
   pub groups : a .d ≡ N P - run P .rank
@@ -62,72 +66,68 @@ pub record FormulaTranslated (P : Problem) (f : Formula) (kept out : List ℤ) (
 
 -- ---- the checks of a translation, from what they ask
 module _ (P : Problem) (f : Formula) (kept out : List ℤ) where
-  abbrev inputs : Bool
-  inputs = problemFits P && formulaFits P f
+  abbrev five : List Check
+  five = problemChecks P (problemFits P && formulaFits P f) (leb roomCoefficients (length kept) && leb roomExponents (length out))
 
-  abbrev outputs : Bool
-  outputs = leb roomCoefficients (length kept) && leb roomExponents (length out)
+  five-pass-exactly : AllPass five ↔ (WellFormed P × ((length (f .exponents) ≡ terms f * P .n) × (terms f ≤ 64)) × RoomToTranslate kept out)
+  five-pass-exactly =
+      five-exactly P (problemFits P && formulaFits P f) (leb roomCoefficients (length kept) && leb roomExponents (length out))
+      (and-exactly (problemFits P) (formulaFits P f) (λ e. e, λ e. e) (formula-fits-exactly P f)) (translate-room-exactly kept out)
 
-  abbrev sevenChecks : List Check
-  sevenChecks = problemChecks P inputs outputs ++ exponentsCheck (f .exponents) ∷ rangeCheck (run P) ∷ []
+  -- 1 to 7
+  abbrev seven : List Check
+  seven = five ++ exponentsCheck (f .exponents) ∷ rangeCheck (run P) ∷ []
 
-  seven-pass : Accepted P → GoodFormula P f → RoomToTranslate kept out → AllPass sevenChecks
-  seven-pass A G R =
-      let a = well-formed-exactly P .1 (A .well-formed) in
-      let fits : inputs ≡ true = both (a .1) (formula-fits-exactly P f .1 (G .fits, G .few)) in
-      let small = none-out-exactly exponentInRange (f .exponents) .1 (λ i _. exponent-exactly (nth (f .exponents) i) .1 (G .small i)) in (
-        unless-exactly (sizesInRange (P .m) (P .n)) .1 (a .0),
-        (
-          unless-exactly inputs .1 fits,
-          (unless-exactly outputs .1 (translate-room-exactly kept out .1 R), (a .2, (a .3, (small, (flag-exactly (run P) .1 (A .in-range), tt))))),
-        ),
-      )
-
-  all-pass-of : Accepted P → GoodFormula P f → RoomToTranslate kept out → ((t : ℕ) → t < terms f → Translatable P (term P f t))
-      → AllPass (checksOfTranslate P f kept out)
-  all-pass-of A G R h = all-pass-append sevenChecks (termsCheck P (run P) f ∷ []) (seven-pass A G R) (all-terms-exactly P (run P) f .1 h, tt)
-
-  pub translated-of : AllPass (checksOfTranslate P f kept out)
-      → Accepted P × GoodFormula P f × RoomToTranslate kept out × ((t : ℕ) → t < terms f → Translatable P (term P f t))
-  translated-of a =
-      let i = and-true (problemFits P) (formulaFits P f) (unless-none inputs (a .1 .0)) in
-      let fits = formula-fits-exactly P f .0 (i .1) in (
+  seven-pass-exactly : AllPass seven ↔ Asked P f kept out
+  seven-pass-exactly = (
+    λ a.
+        let b = all-pass-append five (exponentsCheck (f .exponents) ∷ rangeCheck (run P) ∷ []) .0 a in
+        let x = five-pass-exactly .0 (b .0) in
         record {
-          well-formed = well-formed-exactly P .0 (unless-none (sizesInRange (P .m) (P .n)) (a .0), i .0, a .1 .1 .1 .0, a .1 .1 .1 .1 .0);
-          in-range = flag-exactly (run P) .0 (a .1 .1 .1 .1 .1 .1 .0);
+          accepted = record { well-formed = x .0; in-range = flag-exactly (run P) .0 (b .1 .1 .0) };
+          formula = record { few = x .1 .1; fits = x .1 .0; small = exponents-small (f .exponents) (b .1 .0) };
+          room = x .2;
         },
-        record { few = fits .1; fits = fits .0; small = exponents-small (f .exponents) (a .1 .1 .1 .1 .1 .0) },
-        translate-room-exactly kept out .0 (unless-none outputs (a .1 .1 .0)),
-        all-terms-exactly P (run P) f .0 (a .1 .1 .1 .1 .1 .1 .1 .0),
-      )
+    λ x.
+        let a = five-pass-exactly .1 (x .accepted .well-formed, (x .formula .fits, x .formula .few), x .room) in
+        let small = row-6 (f .exponents) .passes-exactly .1 (λ i _. x .formula .small i) in
+        all-pass-append five (exponentsCheck (f .exponents) ∷ rangeCheck (run P) ∷ []) .1
+        (a, (small, (flag-exactly (run P) .1 (x .accepted .in-range), tt))),
+  )
+
+  pub all-pass-exactly : AllPass (checksOfTranslate P f kept out) ↔ (Asked P f kept out × ((t : ℕ) → t < terms f → Translatable P (term P f t)))
+  all-pass-exactly = (
+    λ a.
+        let b = all-pass-append seven (termsCheck P (run P) f ∷ []) .0 a in
+        (seven-pass-exactly .0 (b .0), all-terms-exactly P (run P) f .0 (b .1 .0)),
+    λ x. all-pass-append seven (termsCheck P (run P) f ∷ []) .1 (seven-pass-exactly .1 (x .0), (all-terms-exactly P (run P) f .1 (x .1), tt)),
+  )
 
 -- ---- "it is translated exactly if each term is free of dimension and no translated exponent passes 2,147,483,647 either way"
 module _ (P : Problem) (f : Formula) (kept out : List ℤ) (a : TranslateAnswer) (kept₁ out₁ : List ℤ)
     (translates : Translates (translateOf P f kept out) a kept₁ out₁) where
-  pub translated-exactly : Accepted P → GoodFormula P f → RoomToTranslate kept out
-      → (a .number ≡ 0) ↔ ((t : ℕ) → t < terms f → Translatable P (term P f t))
-  translated-exactly A G R =
-      let D = translate-ordered P f kept out a kept₁ out₁ translates in (
-        λ e. translated-of P f kept out (D .accepts-exactly .0 e) .3,
-        λ h. D .accepts-exactly .1 (all-pass-of P f kept out A G R h),
-      )
+  pub translated-exactly : Asked P f kept out → (a .number ≡ 0) ↔ ((t : ℕ) → t < terms f → Translatable P (term P f t))
+  translated-exactly A =
+      let D = translate-ordered P f kept out a kept₁ out₁ translates in
+      let E = all-pass-exactly P f kept out in
+      (λ e. E .0 (D .accepts-exactly .0 e) .1, λ h. D .accepts-exactly .1 (E .1 (A, h)))
 
   -- and if it is not translated, the first term that is at fault is told: 8 where it is not free, else 9
-  pub else-term-refused : Accepted P → GoodFormula P f → RoomToTranslate kept out → a .number ≢ 0 → TermDecides P (run P) f (a .number) (a .place)
-  else-term-refused A G R n = go (termsCheck P (run P) f .fault) refl
+  pub else-term-refused : Asked P f kept out → a .number ≢ 0 → TermDecides P (run P) f (a .number) (a .place)
+  else-term-refused A n = go (termsCheck P (run P) f .fault) refl
     where
       D : Ordered (checksOfTranslate P f kept out) (a .number) (a .place) (TranslateRefused (checksOfTranslate P f kept out) kept out a kept₁ out₁)
       D = translate-ordered P f kept out a kept₁ out₁ translates
 
       go : (x : Found) → termsCheck P (run P) f .fault ≡ x → TermDecides P (run P) f (a .number) (a .place)
-      go none e = absurd (n (translated-exactly A G R .1 (all-terms-exactly P (run P) f .0 e)))
+      go none e = absurd (n (translated-exactly A .1 (all-terms-exactly P (run P) f .0 e)))
       go (found t) e =
           let x = D .by-the-first (termsCheck P (run P) f .number) t (record {
-            before = sevenChecks P f kept out;
+            before = seven P f kept out;
             check = termsCheck P (run P) f;
             after = [];
             listed = refl;
-            faultless = seven-pass P f kept out A G R;
+            faultless = seven-pass-exactly P f kept out .1 A;
             its-number = refl;
             its-place = e;
           }) in
@@ -145,19 +145,17 @@ module _ (P : Problem) (f : Formula) (kept out : List ℤ) (a : TranslateAnswer)
   formula-translated e =
       let B = as-taken e in
       let p = translate-ordered P f kept out a kept₁ out₁ translates .accepts-exactly .0 e in
-      let A = translated-of P f kept out p in
+      let A = all-pass-exactly P f kept out .0 p in
       let x : Matrix = λ t g. translated P (run P) (term P f t) g in
       let l = length-grid (terms f) (d P (run P)) x in
       record {
-        accepted = A .0;
-        formula = A .1;
-        room = A .2;
-        free = λ t i. A .3 t i .0;
+        asked = A .0;
+        free = λ t i. A .1 t i .0;
         groups = B .d;
         coefficients = B .kept;
         exponents = rw (B .d, B .translated) (table-filled (terms f) (d P (run P)) x out);
         rest = rw (B .d, B .translated) (filled-keeps (terms f * d P (run P)) (translatedExponents P f) out l
-            (omega (arith, l, room-for-exponents P (limited-of (A .0 .well-formed)) (run-right P) f (A .1 .few), A .2 .translated)));
+            (omega (arith, l, room-for-exponents P (limited-of (A .0 .accepted .well-formed)) (run-right P) f (A .0 .formula .few), A .0 .room .translated)));
       }
 
 -- ---- back: "Put each group's exponents back where the group stands"
@@ -231,5 +229,5 @@ module _ (P : Problem) (h v w : List ℤ) (r : BuildAnswer) (h₁ v₁ w₁ : Li
         let given : (j : ℕ) → j < P .n → ofGroups P (run P) e j ≡ term P f t j
         = λ j c.
         sym (back-is e e (λ g _. refl) j c) ∙ ap (λ (k : ℕ). backIn P r v₁ k e j) (sym as-many-groups) ∙ same j c in
-        translated-only P (run P) (run-right P) (term P f t) (F .accepted .well-formed .moduli) (F .free t i) e given g (omega (arith, F .groups))
+        translated-only P (run P) (run-right P) (term P f t) (F .asked .accepted .well-formed .moduli) (F .free t i) e given g (omega (arith, F .groups))
         ∙ sym (F .exponents t g i b)

@@ -20,7 +20,8 @@ use Rattle.rules.specs.Formulas.{Formula, terms}
 use Rattle.rules.specs.Calls.{unless, firstOut, rangeCheck, problemFits, formulaFits}
 use Rattle.theory.proofs.MoreTests.{and-true}
 use Rattle.theory.proofs.Sizes.{Limited}
-use Rattle.theory.proofs.Accepted.{unless-none, none-out, between, small}
+use Rattle.theory.proofs.Accepted.{AllPass, unless-none, none-out, between, small}
+use Rattle.scaling.specs.Checks.{problemChecks}
 use Rattle.scaling.specs.Answers.{RoomToBuild, RoomToTranslate}
 use Rattle.scaling.proofs.Verdicts.{Sizes, sizes-passed, lengths-passed}
 use Rattle.demands.proofs.Order.{none-out-exactly}
@@ -28,6 +29,9 @@ use Rattle.demands.proofs.Order.{none-out-exactly}
 -- ---- tests
 pub both : {a b : Bool} → a ≡ true → b ≡ true → a && b ≡ true
 both e f = rw (e, f)
+
+pub and-exactly : {A B : Type 0} (a b : Bool) → (a ≡ true) ↔ A → (b ≡ true) ↔ B → (a && b ≡ true) ↔ (A × B)
+and-exactly a b e f = (λ x. let y = and-true a b x in (e .0 (y .0), f .0 (y .1)), λ x. both (e .1 (x .0)) (f .1 (x .1)))
 
 -- a check whose place is 0 passes exactly when its test does
 pub unless-exactly : (b : Bool) → (unless b ≡ none) ↔ (b ≡ true)
@@ -139,7 +143,22 @@ well-formed-exactly P = (to, back)
       none-out-exactly entryInRange (P .matrix) .1 (λ i _. entry-exactly (nth (P .matrix) i) .1 (F .entries i)),
     )
 
--- the part of it that the laws of sizes ask
+-- ---- checks 1 to 5 of a call pass exactly when the problem is well formed, the other inputs have the right lengths and the outputs have room
+pub five-exactly : (P : Problem) (inputs outputs : Bool) {More Room : Type 0} → (inputs ≡ true) ↔ ((problemFits P ≡ true) × More)
+    → (outputs ≡ true) ↔ Room → AllPass (problemChecks P inputs outputs) ↔ (WellFormed P × More × Room)
+five-exactly P inputs outputs i o = (
+  λ a.
+      let x = i .0 (unless-none inputs (a .1 .0)) in
+      let sizes = unless-none (sizesInRange (P .m) (P .n)) (a .0) in
+      (well-formed-exactly P .0 (sizes, x .0, a .1 .1 .1 .0, a .1 .1 .1 .1 .0), x .1, o .0 (unless-none outputs (a .1 .1 .0))),
+  λ x.
+      let a = well-formed-exactly P .1 (x .0) in (
+        unless-exactly (sizesInRange (P .m) (P .n)) .1 (a .0),
+        (unless-exactly inputs .1 (i .1 (a .1, x .1)), (unless-exactly outputs .1 (o .1 (x .2)), (a .2, (a .3, tt)))),
+      ),
+)
+
+-- the part of well-formed that the laws of sizes ask
 pub limited-of : {P : Problem} → WellFormed P → Limited P
 limited-of {P} F = record {
   rows = F .m-high;

@@ -46,9 +46,17 @@ passes-all (c ∷ cs) a = rw (a .0) (passes-all cs (a .1))
 pub taken-exactly : (cs : List Check) → (verdict cs ≡ taken) ↔ AllPass cs
 taken-exactly cs = (all-pass cs, passes-all cs)
 
-pub all-pass-append : (cs ds : List Check) → AllPass cs → AllPass ds → AllPass (cs ++ ds)
-all-pass-append [] ds a b = b
-all-pass-append (c ∷ cs) ds a b = (a .0, all-pass-append cs ds (a .1) b)
+-- a list of checks in two parts
+all-pass-both : (cs ds : List Check) → AllPass cs → AllPass ds → AllPass (cs ++ ds)
+all-pass-both [] ds a b = b
+all-pass-both (c ∷ cs) ds a b = (a .0, all-pass-both cs ds (a .1) b)
+
+all-pass-parts : (cs ds : List Check) → AllPass (cs ++ ds) → AllPass cs × AllPass ds
+all-pass-parts [] ds a = (tt, a)
+all-pass-parts (c ∷ cs) ds a = let b = all-pass-parts cs ds (a .1) in ((a .0, b .0), b .1)
+
+pub all-pass-append : (cs ds : List Check) → AllPass (cs ++ ds) ↔ (AllPass cs × AllPass ds)
+all-pass-append cs ds = (all-pass-parts cs ds, λ a. all-pass-both cs ds (a .0) (a .1))
 
 deciding : (cs : List Check) (number place : ℕ) → verdict cs ≡ refused number place → DecidedBy cs number place
 deciding [] number place e = let z : _≡_ {A = ℕ} 0 1 = cc in absurd (omega arith)

@@ -26,7 +26,7 @@ use Rattle.theory.proofs.Flag.{SomeBeyond, run-over}
 use Rattle.scaling.specs.Answers.{RoomToBuild, RoomToTranslate}
 use Rattle.scaling.proofs.Verdicts.{Sizes}
 use Rattle.demands.proofs.Order.{first-out-exactly, none-out-exactly}
-use Rattle.demands.proofs.Limits.{both, unless-exactly, at-least, sizes-exactly, problem-fits-exactly, formula-fits-exactly, modulus-exactly, entry-exactly, exponent-exactly, flag-exactly}
+use Rattle.demands.proofs.Limits.{both, and-exactly, unless-exactly, at-least, sizes-exactly, problem-fits-exactly, formula-fits-exactly, modulus-exactly, entry-exactly, exponent-exactly, flag-exactly}
 use Rattle.demands.proofs.Limits.{build-room-exactly, translate-room-exactly}
 
 -- a row of the table: no fault exactly when all is good, a fault at a place exactly when what is told of that place holds
@@ -101,9 +101,6 @@ ProblemLengths P = (length (P .matrix) ≡ P .m * P .n) × (length (P .moduli) �
 
 abbrev pub FormulaLengths : Problem → Formula → Type 0
 FormulaLengths P f = ProblemLengths P × (length (f .exponents) ≡ terms f * P .n) × (terms f ≤ 64)
-
-pub and-exactly : {A B : Type 0} (a b : Bool) → (a ≡ true) ↔ A → (b ≡ true) ↔ B → (a && b ≡ true) ↔ (A × B)
-and-exactly a b e f = (λ x. let y = and-true a b x in (e .0 (y .0), f .0 (y .1)), λ x. both (e .1 (x .0)) (f .1 (x .1)))
 
 pub row-2-build : (P : Problem) → Row (inputsCheck (problemFits P)) 2 (ProblemLengths P) (NotAt0 (ProblemLengths P))
 row-2-build P = row-at-0 2 (problemFits P) (ProblemLengths P) (problem-fits-exactly P)
