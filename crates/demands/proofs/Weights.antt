@@ -1,7 +1,7 @@
 -- Document 01, "Weights and formulas": what an accepted `weigh` leaves.
 -- `promise` is what its `ensures` says; P is the problem and es the monomial's exponents as they were given; out is the lent output before the call and
 -- out₁ after it.
-use mathlib.Core.Path.{_≡_, sym, _∙_, ap, subst}
+use mathlib.Core.Path.{_≡_, sym, _∙_, subst}
 use mathlib.Core.Logic.{_↔_}
 use mathlib.Core.Bool.{_&&_}
 use mathlib.Core.List.{List, [], _∷_}
