@@ -5,13 +5,14 @@ use mathlib.Core.Bool.{Bool, true, false}
 use mathlib.Core.List.{List, [], _∷_}
 use Prim.Native.Nat.{ℕ}
 use native.Mathlib.Omega.{arith}
+use lib.IntN.{ℤ}
 use Rattle.rules.specs.Search.{Found, none, found, first}
 use Rattle.rules.specs.Problem.{Problem}
 use Rattle.rules.specs.Stages.{run}
 use Rattle.rules.specs.Formulas.{Formula, isFree, term, terms}
 use Rattle.rules.specs.Calls.{Check, taken, refused, verdict, termsFault, termRefused}
 use Rattle.rules.specs.Calls.{sizesCheck, inputsCheck, outputsCheck, moduliCheck, entriesCheck, exponentsCheck, rangeCheck, termsCheck}
-use Rattle.rules.specs.Calls.{buildVerdict, translateVerdict}
+use Rattle.rules.specs.Calls.{buildVerdict, weighVerdict, translateVerdict}
 use Rattle.theory.proofs.Accepted.{all-pass, taken-of-all}
 
 -- a check that finds a fault has a number that is not 0
@@ -50,6 +51,10 @@ module _ (P : Problem) (inputs outputs : Bool) where
   pub build-not-0 : (k p : ℕ) → buildVerdict P inputs outputs ≡ refused k p → k ≢ 0
   unfolding buildVerdict
   build-not-0 k p e = not-0 (checks (rangeCheck (run P) ∷ [])) (five-numbered (rangeCheck (run P) ∷ []) (λ q f z. omega arith, tt)) k p e
+
+  pub weigh-not-0 : (es : List ℤ) (k p : ℕ) → weighVerdict P es inputs outputs ≡ refused k p → k ≢ 0
+  unfolding weighVerdict
+  weigh-not-0 es k p e = not-0 (checks (exponentsCheck es ∷ [])) (five-numbered (exponentsCheck es ∷ []) (λ q f z. omega arith, tt)) k p e
 
   module _ (f : Formula) where
     abbrev rest : List Check
