@@ -148,7 +148,7 @@ terms-taken P u f e t h = first-nowhere bad 0 (terms f) (go (first bad 0 (terms 
     go none e = refl
     go (found t) e = e
 
--- ---- the three calls, which share their first five checks
+-- ---- the build and the translation, which share their first five checks
 abbrev checks : Problem → (inputs outputs : Bool) → List Check → List Check
 checks P inputs outputs more = sizesCheck P ∷ inputsCheck inputs ∷ outputsCheck outputs ∷ moduliCheck P ∷ entriesCheck P ∷ more
 
