@@ -24,13 +24,13 @@ answer-requires c κs = search needs
 array-share-prefix-bytes : tie.Need-array-share-prefix-bytes
 array-share-prefix-bytes c =
     let l : length (c .before .answer .result .bytes) ≡ 20480 = search needs in
-    omega (arith, c .before .answer .ensures .fits)
+    omega (arith, c .before .answer .ensures .fits, c .before .answer .ensures .len-is)
 
 slice-aggregate-write-all : tie.Need-slice-aggregate-write-all
 slice-aggregate-write-all c =
     let x = c .before .before .answer .result in
     let l : length (x .bytes) ≡ 20480 = search needs in
-    omega (arith, length-take (x .len) (x .bytes), c .before .before .answer .ensures .fits)
+    omega (arith, length-take (x .len) (x .bytes), c .before .before .answer .ensures .fits, c .before .before .answer .ensures .len-is)
 
 write-all-requires : tie.Need-write-all-requires
 write-all-requires c κs = search needs
