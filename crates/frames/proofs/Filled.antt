@@ -1,17 +1,17 @@
 -- Texts written one after the other from the start of a buffer, with a bound on their length.
 -- Assumes nothing.
-use mathlib.Core.Path.{_≡_, refl, ap}
+use mathlib.Core.Path.{_≡_, ap, ap₂, _∙_}
 use mathlib.Core.List.{List, _++_}
-use Prim.Native.Nat.{ℕ, _+_, _*_, _≤_}
-use native.Mathlib.Nat.{mul-le-mul, mul-add, mul-left-comm}
+use Prim.Native.Nat.{ℕ, zero, suc, _+_, _-_, _*_, _≤_}
+use native.Mathlib.Nat.{zero-add, sub-zero, zero-sub, mul-le-mul, mul-add, mul-left-comm}
 use native.Mathlib.Omega.{arith}
-use lib.ListN.{length, take, drop, length-append}
-use lib.Seq.{length-take-le, take-at}
+use lib.ListN.{length, take, drop, length-append, length-replicate}
+use lib.Seq.{length-take-le}
 use lib.IntN.{ℤ}
 use Rattle.rules.specs.Bytes.{byte, fourBytes}
 use Rattle.rules.specs.Frames.{rowLines, termLines}
 use Rattle.frames.specs.declared.solve.Sizes.{Sizes}
-use Rattle.frames.specs.Output.{written, Wrote, Shows, Room, columns, sizesText, solutionText}
+use Rattle.frames.specs.Output.{written, Wrote, zeros, Shows, Room, columns, sizesText, solutionText}
 use Rattle.frames.proofs.Writes.{wrote-both, wrote-length}
 use Rattle.frames.proofs.Printed.{frame-length, rows-length, terms-length}
 
@@ -33,12 +33,17 @@ upto-next u = omega (arith, u .wrote .next-is, u .short)
 upto-length : {d e a : List ℕ} {r x : ℕ} → Upto d e a r x → x ≤ length d → length e ≡ length d
 upto-length u l = wrote-length (u .wrote) (omega (arith, u .short))
 
--- what stands from the start to the next index is the text
-pub upto-shows : {d e a : List ℕ} {r x : ℕ} → Upto d e a r x → x ≤ 20480 → Shows (record { bytes = e; len = r }) a
+drop-zeros : (k n : ℕ) → drop k (zeros n) ≡ zeros (n - k)
+drop-zeros zero n = rw sub-zero
+drop-zeros (suc k) zero = rw zero-sub
+drop-zeros (suc k) (suc n) = let e : suc n - suc k ≡ n - k = omega arith in rw e (drop-zeros k n)
+
+-- written over zeros, the buffer is the text and zeros after it
+pub upto-shows : {d e a : List ℕ} {r x : ℕ} → d ≡ zeros 20480 → Upto d e a r x → x ≤ 20480 → Shows (record { bytes = e; len = r }) a
 unfolding written
-upto-shows {d} {e} {a} {r} {x} u l =
-    let n : r ≡ length a = omega (arith, u .wrote .next-is) in
-    record { fits = omega (arith, u .short); is = rw (u .wrote .exit-is, n) (take-at a (drop (0 + length a) d) (length a) refl) }
+upto-shows {d} {e} {a} fresh u l =
+    let rest : drop (0 + length a) d ≡ zeros (20480 - length a) = ap₂ drop (zero-add (length a)) fresh ∙ drop-zeros (length a) 20480 in
+    record { fits = omega (arith, u .short); len-is = omega (arith, u .wrote .next-is); bytes-are = u .wrote .exit-is ∙ ap (λ (t : List ℕ). a ++ t) rest }
 
 -- there is room for another text
 upto-room : {d e a : List ℕ} {r x : ℕ} (y : ℕ) {b : ℕ} → Upto d e a r x → b ≤ y → x + y ≤ length d → r + b ≤ length e
@@ -87,34 +92,37 @@ module _ (x : Sizes) (h v w cs es : List ℤ) (room : Room x h v w cs es) where
   unfolding sizesText
   sizes-length = omega (arith, frame-length (byte 0x81 ++ byte (x .m) ++ byte (x .n) ++ byte (x .s) ++ byte (x .r) ++ fourBytes (x .steps)))
 
-  module _ {d e : List ℕ} {p : ℕ} (long : length d ≡ 20480) (sizes : Wrote d e 0 (throughSizes x) p) where
+  module _ {d e : List ℕ} {p : ℕ} (fresh : d ≡ zeros 20480) (sizes : Wrote d e 0 (throughSizes x) p) where
+    long : length d ≡ 20480
+    long = ap length fresh ∙ length-replicate {A = ℕ} 20480 0
+
     after-sizes : Upto d e (throughSizes x) p 19
     after-sizes = upto-first 19 sizes sizes-length
 
     pub room-h : p + x .m * (3 + 8 * columns x) ≤ length e
-    room-h = upto-room 1560 after-sizes h-size (omega arith)
+    room-h = upto-room 1560 after-sizes h-size (omega (arith, long))
 
     module _ {f : List ℕ} {q : ℕ} (h-lines : Wrote e f p (rowLines 0x82 (x .m) (columns x) h) q) where
       after-h : Upto d f (throughH x h) q 1579
-      after-h = upto-both 1560 after-sizes h-lines h-length (omega arith)
+      after-h = upto-both 1560 after-sizes h-lines h-length (omega (arith, long))
 
       pub room-v : q + columns x * (3 + 8 * columns x) ≤ length f
-      room-v = upto-room 4680 after-h square-size (omega arith)
+      room-v = upto-room 4680 after-h square-size (omega (arith, long))
 
       module _ {g : List ℕ} {r : ℕ} (v-lines : Wrote f g q (rowLines 0x83 (columns x) (columns x) v) r) where
         after-v : Upto d g (throughV x h v) r 6259
-        after-v = upto-both 4680 after-h v-lines (square-length 0x83 v (room .v-room)) (omega arith)
+        after-v = upto-both 4680 after-h v-lines (square-length 0x83 v (room .v-room)) (omega (arith, long))
 
         pub room-w : r + columns x * (3 + 8 * columns x) ≤ length g
-        room-w = upto-room 4680 after-v square-size (omega arith)
+        room-w = upto-room 4680 after-v square-size (omega (arith, long))
 
         module _ {i : List ℕ} {k : ℕ} (w-lines : Wrote g i r (rowLines 0x84 (columns x) (columns x) w) k) where
           after-w : Upto d i (throughW x h v w) k 10939
-          after-w = upto-both 4680 after-v w-lines (square-length 0x84 w (room .w-room)) (omega arith)
+          after-w = upto-both 4680 after-v w-lines (square-length 0x84 w (room .w-room)) (omega (arith, long))
 
           pub room-terms : k + x .terms * (11 + 8 * x .d) ≤ length i
-          room-terms = upto-room 8896 after-w terms-size (omega arith)
+          room-terms = upto-room 8896 after-w terms-size (omega (arith, long))
 
           pub solution-shows : {j : List ℕ} {l : ℕ} → Wrote i j k (termLines (x .d) (take (x .terms) cs) es) l → Shows (record { bytes = j; len = l }) (solutionText x h v w cs es)
           unfolding solutionText
-          solution-shows term-lines = upto-shows (upto-both 8896 after-w term-lines terms-text-length (omega arith)) (omega arith)
+          solution-shows term-lines = upto-shows fresh (upto-both 8896 after-w term-lines terms-text-length (omega (arith, long))) (omega arith)

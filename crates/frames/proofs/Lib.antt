@@ -9,6 +9,7 @@
 --     Writes     texts written into a buffer, one after the other
 --     Printed    the printed lines, one number, one row, one term more
 --     Prefix     the first 5,376 bytes of the input decide the program's answer
+--     Broken     an input that ends with a blank is refused
 --     Filled     texts written one after the other from the start of a buffer, and how long they are
 --     Fits       the lengths of what was read and of the arrays that are lent
 --     Solved     what the two calls answer to what was read, and the lines that tell it
@@ -22,6 +23,7 @@ pub mod Progress
 pub mod Writes
 pub mod Printed
 pub mod Prefix
+pub mod Broken
 pub mod Filled
 pub mod Fits
 pub mod Solved

@@ -2,3 +2,4 @@
 pub mod Line
 pub mod Input
 pub mod Output
+pub mod Broken

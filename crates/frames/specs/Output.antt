@@ -2,8 +2,8 @@
 use mathlib.Core.Path.{_≡_}
 use mathlib.Core.Bool.{true}
 use mathlib.Core.List.{List, _∷_, _++_}
-use Prim.Native.Nat.{ℕ, _+_, _*_, _≤_}
-use lib.ListN.{length, take, drop}
+use Prim.Native.Nat.{ℕ, _+_, _-_, _*_, _≤_}
+use lib.ListN.{length, take, drop, replicate}
 use lib.IntN.{ℤ}
 use Rattle.rules.specs.Problem.{Problem}
 use Rattle.rules.specs.Stages.{run}
@@ -36,10 +36,14 @@ unfoldable pub termText : (coefficient : ℤ) → (exponents : List ℤ) → Lis
 termText z es = frame (byte 0x85 ++ bytesOf (z ∷ es))
 
 -- ---- a whole output
--- a Text is the text given
+abbrev pub zeros : (count : ℕ) → List ℕ
+zeros count = replicate count 0
+
+-- a Text is the text given, and zeros after it
 pub record Shows (x : Text) (text : List ℕ) : Type 0 where
-  pub fits : x .len ≤ 20480
-  pub is : take (x .len) (x .bytes) ≡ text
+  pub fits : length text ≤ 20480
+  pub len-is : x .len ≡ length text
+  pub bytes-are : x .bytes ≡ text ++ zeros (20480 - length text)
 
 abbrev pub columns : Sizes → ℕ
 columns x = x .n + x .s

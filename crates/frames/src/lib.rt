@@ -7,7 +7,7 @@ mod print;
 mod read;
 mod solve;
 
-// A text: the first `len` bytes.
+// A text: the first `len` bytes, and zeros after them.
 pub struct Text {
     pub bytes: [u8; 20480],
     pub len: usize,

@@ -1,10 +1,15 @@
 // The program: document 01's lines from standard input, its answer to standard output.
 // The longest good input has 5,375 bytes, so that the first 5,376 of any input decide its answer.
+mod input;
+
 fn main() {
     let mut input: [u8; 5376] = [0; 5376];
-    let count = io::read_full(0, &mut input);
+    let held = input::read(libc::STDIN_FILENO, &mut input);
+    let count = held.len;
     let text = frames::answer(&input[..count]);
     let bytes = text.bytes;
     let len = text.len;
-    io::write_all(1, &bytes[..len]);
+    if !io::write_all(libc::STDOUT_FILENO, &bytes[..len]) {
+        io::write_all(libc::STDERR_FILENO, b"the answer could not be written\n");
+    }
 }

@@ -1,5 +1,6 @@
 -- `frames::solve::refused` shows the refusal's line.
 -- Assumes nothing.
+use mathlib.Core.Path.{refl}
 use Rattle.rules.specs.Frames.{refusalLine, frame, hex}
 use Rattle.frames.proofs.Filled.{upto-first, upto-shows}
 use native.Mathlib.Omega.{arith}
@@ -15,7 +16,7 @@ refusal-requires c κs = search needs
 
 returns : tie.Need-returns
 unfolding refusalLine frame hex
-returns c = upto-shows (upto-first 9 (c .before .refusal .ensures) (omega arith)) (omega arith)
+returns c = upto-shows refl (upto-first 9 (c .before .refusal .ensures) (omega arith)) (omega arith)
 
 pub refused-spec : {M : Type 1} → statement M
 refused-spec = tie.close (tie.spec slice-aggregate-refusal refusal-requires returns)
