@@ -1,21 +1,23 @@
 -- Document 01, "Known problems with their results": those "marked * are proved of the definitions", wherever it gives the number;
--- the first of its "Errors that look right"; and its whole example, byte for byte. All of it is computed.
+-- and its whole example, byte for byte. Then what its "Errors that look right" and the like would change. All of it is computed.
 use mathlib.Core.Path.{_≡_, refl}
-use mathlib.Core.Bool.{true}
-use mathlib.Core.List.{List, [], _∷_}
-use Prim.Native.Nat.{ℕ}
+use mathlib.Core.Bool.{true, false, _&&_}
+use mathlib.Core.List.{List, [], _∷_, _++_}
+use Prim.Native.Nat.{ℕ, zero, suc}
 use Prim.Native.Char.{code}
 use Prim.Native.String.{String, [] as end, _∷_ as _then_}
-use lib.IntN.{ℤ, pos, negsuc}
-use Rattle.whole.specs.Lists.{tab}
+use lib.ListN.{length, replicate}
+use lib.IntN.{ℤ, pos, negsuc, negℤ}
+use Rattle.whole.specs.Lists.{nth, tab}
 use Rattle.whole.specs.Sum.{sum}
 use Rattle.rules.specs.Search.{first, last, smallest, total, each}
 use Rattle.rules.specs.Problem.{Problem, modulusRowsFrom, s, columns}
-use Rattle.rules.specs.Steps.{get, getW, step, swapStep, negateStep, addStep, reorder, startLines}
+use Rattle.rules.specs.Steps.{State, get, getW, step, swapStep, negateStep, addStep, reorder, startLines}
 use Rattle.rules.specs.Stages.{Run, size, next, repeatA, eliminate, reduce, bring, makePositive, settle, row, rows, stage1, stage2, stage3, runOn, run}
 use Rattle.rules.specs.Formulas.{Formula, rowTimes, remainder, weight, isFree, kOf, kAnd, d, translated, group, passes}
-use Rattle.rules.specs.Calls.{Verdict, taken, refused, firstOut, buildVerdict, translateVerdict, contentsH, contentsV, contentsW, translatedExponents}
+use Rattle.rules.specs.Calls.{Verdict, taken, refused, firstOut, buildVerdict, weighVerdict, translateVerdict, problemFits, formulaFits, contentsH, contentsV, contentsW, weights, translatedExponents, buildOf, weighOf, translateOf}
 use Rattle.rules.specs.Bytes.{short, long, shorts, longs, bytesOf}
+use Rattle.rules.specs.Bench.{benchBuildVerdict}
 use Rattle.rules.specs.Frames.{linesOf, digit, unhex, frameOf, isFrame, rowModulus, rowEntries, termCoefficient, termExponents, firstBad, contentsOf, sized, readingOf, digitOf, hex, frame, refusalLine, sizesLine, rowLines, termLines, printed, program}
 
 -- ---- ways of writing
@@ -41,6 +43,17 @@ problem m n matrix moduli = record { m = m; n = n; matrix = matrix; moduli = mod
 abbrev monomial : ℤ → List ℤ → Formula
 monomial c es = record { coefficients = c ∷ []; exponents = es }
 
+-- a single row
+abbrev alone : List ℤ → (modulus : ℤ) → Problem
+alone row p = problem 1 (length row) row (p ∷ [])
+
+-- as the calls judge them, with room enough lent
+abbrev judged : Problem → Verdict
+judged P = buildVerdict P (problemFits P) true
+
+abbrev judgedFormula : Problem → Formula → Verdict
+judgedFormula P f = translateVerdict P f (problemFits P && formulaFits P f) true
+
 abbrev rank : Problem → ℕ
 rank P = run P .rank
 
@@ -55,6 +68,22 @@ groupOf P g = tab (P .n) (group P (run P) g)
 unfoldable pub bytes : String → List ℕ
 bytes end = []
 bytes (c then t) = code c ∷ bytes t
+
+unfoldable pub times : ℕ → List ℕ → List ℕ
+times zero t = []
+times (suc count) t = t ++ times count t
+
+-- a lent list of so many nines
+abbrev nines : ℕ → List ℤ
+nines count = replicate count (pos 9)
+
+-- two lines whose columns of T and V, and rows of W, have one entry each
+abbrev pair : (t₀ v₀ w₀ t₁ v₁ w₁ : ℤ) → State
+pair t₀ v₀ w₀ t₁ v₁ w₁ = record {
+  lines = record { t = t₀ ∷ []; v = v₀ ∷ []; w = w₀ ∷ [] } ∷ record { t = t₁ ∷ []; v = v₁ ∷ []; w = w₁ ∷ [] } ∷ [];
+  steps = 0;
+  over = false;
+}
 
 -- ---- the problems
 abbrev problem1 : Problem
@@ -85,19 +114,22 @@ problem9 = problem 3 4 (
     pos 0 ∷ pos 0 ∷ pos 1000 ∷ -1 ∷ []
     ) (pos 0 ∷ pos 0 ∷ pos 0 ∷ [])
 
-abbrev trap : Problem
-trap = problem 2 2 (pos 3 ∷ -2 ∷ pos 0 ∷ pos 1 ∷ []) (pos 0 ∷ pos 0 ∷ [])
+abbrev towardZero : Problem
+towardZero = problem 2 2 (pos 3 ∷ -2 ∷ pos 0 ∷ pos 1 ∷ []) (pos 0 ∷ pos 0 ∷ [])
+
+abbrev widest : Problem
+widest = alone (pos 917 ∷ negℤ (pos 618) ∷ negℤ (pos 541) ∷ negℤ (pos 185) ∷ []) (pos 0)
 
 -- ---- the list
 pub record Starred : Type 0 where
   -- 1. [0], no modulus: r 0, H [0], V [1], 0 steps.
-  pub accepted1 : buildVerdict problem1 true true ≡ taken
+  pub accepted1 : judged problem1 ≡ taken
   pub r1 : rank problem1 ≡ 0
   pub H1 : contentsH problem1 ≡ pos 0 ∷ []
   pub V1 : contentsV problem1 ≡ pos 1 ∷ []
   pub steps1 : steps problem1 ≡ 0
   -- 2. [-5]: r 1, H [5], V and W [-1], no group, 1 step.
-  pub accepted2 : buildVerdict problem2 true true ≡ taken
+  pub accepted2 : judged problem2 ≡ taken
   pub r2 : rank problem2 ≡ 1
   pub H2 : contentsH problem2 ≡ pos 5 ∷ []
   pub V2 : contentsV problem2 ≡ -1 ∷ []
@@ -105,7 +137,7 @@ pub record Starred : Type 0 where
   pub groups2 : d problem2 (run problem2) ≡ 0
   pub steps2 : steps problem2 ≡ 1
   -- 3. [0], modulus 1: H [1 0], V and W rows (-1 0),(0 1), 2 steps.
-  pub accepted3 : buildVerdict problem3 true true ≡ taken
+  pub accepted3 : judged problem3 ≡ taken
   pub H3 : contentsH problem3 ≡ pos 1 ∷ pos 0 ∷ []
   pub V3 : contentsV problem3 ≡ -1 ∷ pos 0 ∷ pos 0 ∷ pos 1 ∷ []
   pub W3 : contentsW problem3 ≡ -1 ∷ pos 0 ∷ pos 0 ∷ pos 1 ∷ []
@@ -117,7 +149,7 @@ pub record Starred : Type 0 where
   pub groups4 : d problem4 (run problem4) ≡ 1
   pub group4 : groupOf problem4 0 ≡ -2 ∷ pos 1 ∷ []
   -- 5. [1 2 0], modulus 3: H [1 0 0 0]; V rows (0 1 1 0),(1 3 1 0),(0 0 1 0),(0 0 0 1); W rows (-3 1 2 0),(1 0 -1 0),(0 0 1 0),(0 0 0 1).
-  pub accepted5 : buildVerdict problem5 true true ≡ taken
+  pub accepted5 : judged problem5 ≡ taken
   pub H5 : contentsH problem5 ≡ pos 1 ∷ pos 0 ∷ pos 0 ∷ pos 0 ∷ []
   pub V5 :
       contentsV problem5 ≡
@@ -132,23 +164,21 @@ pub record Starred : Type 0 where
       pos 0 ∷ pos 0 ∷ pos 1 ∷ pos 0 ∷
       pos 0 ∷ pos 0 ∷ pos 0 ∷ pos 1 ∷ []
   -- 6. In 5, exponents (2, 2, 1) become (0, 2, 1).
-  pub accepted6 : translateVerdict problem5 (monomial (pos 1) (pos 2 ∷ pos 2 ∷ pos 1 ∷ [])) true true ≡ taken
+  pub accepted6 : judgedFormula problem5 (monomial (pos 1) (pos 2 ∷ pos 2 ∷ pos 1 ∷ [])) ≡ taken
   pub become6 : translatedExponents problem5 (monomial (pos 1) (pos 2 ∷ pos 2 ∷ pos 1 ∷ [])) ≡ pos 0 ∷ pos 2 ∷ pos 1 ∷ []
   -- 7. In 5, (1, 0, 0) is refused 8.
-  pub refused7 : translateVerdict problem5 (monomial (pos 1) (pos 1 ∷ pos 0 ∷ pos 0 ∷ [])) true true ≡ refused 8 0
+  pub refused7 : judgedFormula problem5 (monomial (pos 1) (pos 1 ∷ pos 0 ∷ pos 0 ∷ [])) ≡ refused 8 0
   -- 8. Rows (6 0 -4 1 3),(0 3 1 -4 3): H columns (3,0),(2,1); groups (2,-1,3,0,0),(1,2,2,2,0),(0,0,1,1,1).
-  pub accepted8 : buildVerdict problem8 true true ≡ taken
+  pub accepted8 : judged problem8 ≡ taken
   pub H8 : contentsH problem8 ≡ pos 3 ∷ pos 2 ∷ pos 0 ∷ pos 0 ∷ pos 0 ∷ pos 0 ∷ pos 1 ∷ pos 0 ∷ pos 0 ∷ pos 0 ∷ []
   pub groups8 : d problem8 (run problem8) ≡ 3
   pub group8₀ : groupOf problem8 0 ≡ pos 2 ∷ -1 ∷ pos 3 ∷ pos 0 ∷ pos 0 ∷ []
   pub group8₁ : groupOf problem8 1 ≡ pos 1 ∷ pos 2 ∷ pos 2 ∷ pos 2 ∷ pos 0 ∷ []
   pub group8₂ : groupOf problem8 2 ≡ pos 0 ∷ pos 0 ∷ pos 1 ∷ pos 1 ∷ pos 1 ∷ []
   -- 9. Three rows, 1000 on the diagonal and -1 right of it, four quantities: group (1, 1000, 1,000,000, 1,000,000,000).
-  pub accepted9 : buildVerdict problem9 true true ≡ taken
+  pub accepted9 : judged problem9 ≡ taken
   pub groups9 : d problem9 (run problem9) ≡ 1
   pub group9 : groupOf problem9 0 ≡ pos 1 ∷ pos 1000 ∷ pos 1_000_000 ∷ pos 1_000_000_000 ∷ []
-  -- "rows (3 -2),(0 1) keep the -2 right of the pivot 3; the right entry is 1"
-  pub trapped : contentsH trap ≡ pos 3 ∷ pos 1 ∷ pos 0 ∷ pos 1 ∷ []
 
 pub starred : Starred
 unfolding bytes sum first last smallest total each modulusRowsFrom columns get getW step swapStep negateStep addStep reorder startLines size next repeatA eliminate reduce bring makePositive settle row rows stage1 stage2 stage3 runOn run rowTimes remainder weight isFree kOf kAnd translated group passes firstOut buildVerdict translateVerdict contentsH contentsV contentsW translatedExponents short long shorts longs bytesOf linesOf digit unhex frameOf isFrame rowModulus rowEntries termCoefficient termExponents firstBad contentsOf sized readingOf digitOf hex frame refusalLine sizesLine rowLines termLines printed program
@@ -189,5 +219,150 @@ starred = record {
   accepted9 = refl;
   groups9 = refl;
   group9 = refl;
-  trapped = refl;
+}
+
+-- ---- what an error that looks right would change
+-- Each value was found by hand, or by the second program in peer/, before it was computed here.
+pub record Traps : Type 0 where
+  -- The steps.
+  -- "rows (3 -2),(0 1) keep the -2 right of the pivot 3; the right entry is 1"; a lower triangular form has a 0 there
+  pub floored : contentsH towardZero ≡ pos 3 ∷ pos 1 ∷ pos 0 ∷ pos 1 ∷ []
+  -- stage 3 "from the top pivot row down" would leave (1, -2, 0) in V's first column, out of range at the pivot 3 (by hand)
+  pub upward : contentsV (alone (-3 ∷ -2 ∷ pos 1 ∷ []) (pos 0)) ≡ -1 ∷ -2 ∷ -1 ∷ pos 1 ∷ pos 3 ∷ pos 2 ∷ pos 0 ∷ pos 0 ∷ pos 1 ∷ []
+  -- in (A) the quotient is cut: with the floor it would take 4 steps (by hand)
+  pub cut : steps (alone (-3 ∷ pos 2 ∷ []) (pos 0)) ≡ 5
+  -- in (A) p is the lowest on a tie: with the highest it would take 3 steps (by hand)
+  pub lowest : steps (alone (pos 2 ∷ -2 ∷ []) (pos 0)) ≡ 2
+  -- in (A) j is the lowest other column: with the highest it would take 7 steps (peer, by hand)
+  pub other : steps (alone (-3 ∷ -2 ∷ []) (pos 2)) ≡ 8
+  -- stage 2 takes all N rows of V: the first m alone would leave rows (0 1),(-1 -2) (by hand)
+  pub all : contentsV (alone (-1 ∷ []) (pos 2)) ≡ -1 ∷ -1 ∷ pos 1 ∷ pos 2 ∷ []
+  -- with r = 0 nothing is done (peer)
+  pub rank0 : rank (alone (pos 0 ∷ pos 0 ∷ []) (pos 0)) ≡ 0
+  pub V0 : contentsV (alone (pos 0 ∷ pos 0 ∷ []) (pos 0)) ≡ pos 1 ∷ pos 0 ∷ pos 0 ∷ pos 1 ∷ []
+  pub W0 : contentsW (alone (pos 0 ∷ pos 0 ∷ []) (pos 0)) ≡ pos 1 ∷ pos 0 ∷ pos 0 ∷ pos 1 ∷ []
+  pub steps0 : steps (alone (pos 0 ∷ pos 0 ∷ []) (pos 0)) ≡ 0
+  -- 7 is a matter of the steps and not of H (by hand: the greatest common divisor of the row is 1)
+  pub large : judged widest ≡ refused 7 0
+  pub largeH : contentsH widest ≡ pos 1 ∷ pos 0 ∷ pos 0 ∷ pos 0 ∷ []
+  -- M is taken and M + 1 is not, in T, V and W alike, either way (by hand: column 1 gains q times column 0, row 0 of W loses q times row 1)
+  pub T-M : addStep 0 1 (pos 1) (pair (pos 1) (pos 0) (pos 0) (pos 2_147_483_646) (pos 0) (pos 0)) .over ≡ false
+  pub T-over : addStep 0 1 (pos 2) (pair (pos 1) (pos 0) (pos 0) (pos 2_147_483_646) (pos 0) (pos 0)) .over ≡ true
+  pub V-M : addStep 0 1 -1 (pair (pos 0) (pos 1) (pos 0) (pos 0) (negsuc 2_147_483_645) (pos 0)) .over ≡ false
+  pub V-over : addStep 0 1 -2 (pair (pos 0) (pos 1) (pos 0) (pos 0) (negsuc 2_147_483_645) (pos 0)) .over ≡ true
+  pub W-M : addStep 0 1 (pos 1) (pair (pos 0) (pos 0) (negsuc 2_147_483_645) (pos 0) (pos 0) (pos 1)) .over ≡ false
+  pub W-over : addStep 0 1 (pos 2) (pair (pos 0) (pos 0) (negsuc 2_147_483_645) (pos 0) (pos 0) (pos 1)) .over ≡ true
+  -- Weights and formulas.
+  -- the remainder has "the dividend's sign": the floor's would be 2 (by hand)
+  pub signed : weights problem5 (nth (-1 ∷ pos 0 ∷ pos 0 ∷ [])) ≡ -1 ∷ []
+  -- a modulus of 1 is a true one: it makes every weight 0, adds a column and counts in s (by hand; peer)
+  pub one : weights (alone (pos 5 ∷ []) (pos 1)) (nth (pos 3 ∷ [])) ≡ pos 0 ∷ []
+  pub one-column : program (bytes "010101\n0200010001\n03000000090003\n") ≡ bytes "810101010100000003\n820000000100000000\n83ffffffff00000001\n830000000000000001\n84ffffffff00000001\n840000000000000001\n850000000900000003\n"
+  -- with d = 0 "only all-zero exponents are free, and they translate to none" (peer)
+  pub none-left : program (bytes "010101\n020000fffb\n03000000070000\n") ≡ bytes "810101000100000001\n8200000005\n83ffffffff\n84ffffffff\n8500000007\n"
+  pub not-free : program (bytes "010101\n020000fffb\n03000000070001\n") ≡ bytes "ff080000\n"
+  -- the second term is refused (peer)
+  pub second : program (bytes "010102\n02000000010002\n0300000005fffc0002\n0300000005fffc0001\n") ≡ bytes "ff080001\n"
+  -- The checks (peer).
+  -- the first size beyond the limits; then the second line is not read
+  pub sizes : program (bytes "010811\nx\n") ≡ bytes "ff010000\n"
+  pub no-rows : program (bytes "010001\nx\n") ≡ bytes "ff010000\n"
+  -- a modulus of -1 before an entry of 1001
+  pub modulus : program (bytes "010101\n02ffff03e9\n") ≡ bytes "ff040000\n"
+  -- the entry -1001 of the second row and column; -1000 is taken
+  pub entry : program (bytes "010202\n02000000000000\n0200000000fc17\n") ≡ bytes "ff050003\n"
+  pub entry-taken : program (bytes "010101\n020000fc18\n") ≡ bytes "810101000100000001\n82000003e8\n83ffffffff\n84ffffffff\n"
+  -- the exponent -10,001 of the second term; -10,000 is taken
+  pub exponent : program (bytes "010101\n0200000000\n0300000001d8f0\n0300000001d8ef\n") ≡ bytes "ff060001\n"
+  pub exponent-taken : program (bytes "010101\n0200000000\n0300000001d8f0\n") ≡ bytes "810101000000000000\n8200000000\n8300000001\n8400000001\n8500000001ffffd8f0\n"
+  -- the exponent 10,001 in a problem that is refused 7; there a term that is not free
+  pub exponent-first : program (bytes "010104\n0200000395fd96fde3ff47\n03000000012711000000000000\n") ≡ bytes "ff060000\n"
+  pub build-first : program (bytes "010104\n0200000395fd96fde3ff47\n03000000010001000000000000\n") ≡ bytes "ff070000\n"
+  -- The lines (peer).
+  -- nothing; line 0 torn off; with a capital; a missing line; a line of the wrong kind; a capital digit; a last line torn off; an empty line
+  pub empty : program [] ≡ bytes "ff0a0000\n"
+  pub torn0 : program (bytes "010102") ≡ bytes "ff0a0000\n"
+  pub capital0 : program (bytes "01010A\n") ≡ bytes "ff0a0000\n"
+  pub missing : program (bytes "010102\n") ≡ bytes "ff0a0001\n"
+  pub kind : program (bytes "010102\n03000000010002\n") ≡ bytes "ff0a0001\n"
+  pub capital : program (bytes "010102\n02000000010002\n0300000005FFFC0002\n") ≡ bytes "ff0a0002\n"
+  pub torn : program (bytes "010102\n02000000010002\n0300000005fffc0002") ≡ bytes "ff0a0002\n"
+  pub blank : program (bytes "010102\n02000000010002\n\n") ≡ bytes "ff0a0002\n"
+  -- 64 terms are taken, and the 65th is line 66
+  pub terms64 : program (bytes "010101\n0200000000\n" ++ times 64 (bytes "03000000010002\n")) ≡ bytes "810101000000000000\n8200000000\n8300000001\n8400000001\n" ++ times 64 (bytes "850000000100000002\n")
+  pub terms65 : program (bytes "010101\n0200000000\n" ++ times 65 (bytes "03000000010002\n")) ≡ bytes "ff0a0042\n"
+  -- The lent lists (by hand).
+  -- what comes after the first entries is untouched
+  pub filled :
+      buildOf problem2 (nines 192) (nines 577) (nines 576)
+      ≡ record { answer = record { number = 0; place = 0; rank = 1; moduli = 0; steps = 1 }; h = pos 5 ∷ nines 191; v = -1 ∷ nines 576; w = -1 ∷ nines 575 }
+  -- an output one too short: each holds what it held
+  pub tooShort :
+      buildOf problem2 (nines 191) (nines 576) (nines 576)
+      ≡ record { answer = record { number = 3; place = 0; rank = 0; moduli = 0; steps = 0 }; h = nines 191; v = nines 576; w = nines 576 }
+  pub weighed : weighOf problem5 (-1 ∷ pos 0 ∷ pos 0 ∷ []) (nines 8) ≡ record { answer = record { number = 0; place = 0 }; weights = -1 ∷ nines 7 }
+  -- two exponents for three quantities
+  pub few : weighOf problem5 (pos 0 ∷ pos 0 ∷ []) (nines 8) ≡ record { answer = record { number = 2; place = 0 }; weights = nines 8 }
+  pub kept :
+      translateOf problem5 (monomial -4 (pos 2 ∷ pos 2 ∷ pos 1 ∷ [])) (nines 64) (nines 1024)
+      ≡ record { answer = record { number = 0; place = 0; d = 3 }; coefficients = -4 ∷ nines 63; exponents = pos 0 ∷ pos 2 ∷ pos 1 ∷ nines 1021 }
+  -- lent bytes: an input and an output that end inside a number
+  pub whole-bytes : benchBuildVerdict 1 1 (255 ∷ 255 ∷ 255 ∷ 251 ∷ []) (replicate 4 0) (replicate 768 0) (replicate 2304 0) (replicate 2304 0) ≡ taken
+  pub torn-input : benchBuildVerdict 1 1 (255 ∷ 255 ∷ 255 ∷ 251 ∷ 0 ∷ []) (replicate 4 0) (replicate 769 0) (replicate 2304 0) (replicate 2304 0) ≡ refused 2 0
+  pub torn-output : benchBuildVerdict 1 1 (255 ∷ 255 ∷ 255 ∷ 251 ∷ []) (replicate 4 0) (replicate 769 0) (replicate 2304 0) (replicate 2304 0) ≡ refused 3 0
+
+pub traps : Traps
+unfolding bytes times sum first last smallest total each modulusRowsFrom columns get getW step swapStep negateStep addStep reorder startLines size next repeatA eliminate reduce bring makePositive settle row rows stage1 stage2 stage3 runOn run rowTimes remainder weight isFree kOf kAnd translated group passes firstOut buildVerdict weighVerdict translateVerdict contentsH contentsV contentsW weights translatedExponents buildOf weighOf translateOf short long shorts longs bytesOf benchBuildVerdict linesOf digit unhex frameOf isFrame rowModulus rowEntries termCoefficient termExponents firstBad contentsOf sized readingOf digitOf hex frame refusalLine sizesLine rowLines termLines printed program
+traps = record {
+  floored = refl;
+  upward = refl;
+  cut = refl;
+  lowest = refl;
+  other = refl;
+  all = refl;
+  rank0 = refl;
+  V0 = refl;
+  W0 = refl;
+  steps0 = refl;
+  large = refl;
+  largeH = refl;
+  T-M = refl;
+  T-over = refl;
+  V-M = refl;
+  V-over = refl;
+  W-M = refl;
+  W-over = refl;
+  signed = refl;
+  one = refl;
+  one-column = refl;
+  none-left = refl;
+  not-free = refl;
+  second = refl;
+  sizes = refl;
+  no-rows = refl;
+  modulus = refl;
+  entry = refl;
+  entry-taken = refl;
+  exponent = refl;
+  exponent-taken = refl;
+  exponent-first = refl;
+  build-first = refl;
+  empty = refl;
+  torn0 = refl;
+  capital0 = refl;
+  missing = refl;
+  kind = refl;
+  capital = refl;
+  torn = refl;
+  blank = refl;
+  terms64 = refl;
+  terms65 = refl;
+  filled = refl;
+  tooShort = refl;
+  weighed = refl;
+  few = refl;
+  kept = refl;
+  whole-bytes = refl;
+  torn-input = refl;
+  torn-output = refl;
 }
