@@ -119,7 +119,7 @@ weights P v = tab (P .m) (weight P v)
 unfoldable pub translatedExponents : Problem → Formula → List ℤ
 translatedExponents P f = grid (terms f) (d P (run P)) (λ t g. translated P (run P) (term P f t) g)
 
--- "On success the first entries are filled without gaps, and those after them are untouched."
+-- "On success the first entries are filled without gaps, row after row (..), and those after them are untouched."
 abbrev pub filled : {A : Type 0} → (contents lent : List A) → List A
 filled contents lent = contents ++ drop (length contents) lent
 

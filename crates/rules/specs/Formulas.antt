@@ -9,7 +9,6 @@ use lib.IntN.{ℤ, pos, natAbs, _*ℤ_}
 use lib.Signed.{quotZ, remZ}
 use Rattle.whole.specs.Lists.{nth}
 use Rattle.whole.specs.Sum.{sum}
-use Rattle.whole.specs.Matrix.{Matrix}
 use Rattle.rules.specs.Limits.{isZero, beyond, mostTerms}
 use Rattle.rules.specs.Search.{Found, none, found, first}
 use Rattle.rules.specs.Problem.{Problem, entry, modulus, modulusRows, s, N}

@@ -3,13 +3,13 @@ use mathlib.Core.Bool.{Bool, true, false, cond, _&&_}
 use mathlib.Core.List.{List, [], _∷_, _++_, map}
 use Prim.Native.Nat.{ℕ, zero, suc, _+_, _-_, _*_, _/_, _%_}
 use lib.Dec.{ltb, leb, eqb}
-use lib.ListN.{length, getD, take, drop}
+use lib.ListN.{length, take, drop}
 use lib.IntN.{ℤ}
 use Rattle.whole.specs.Lists.{join}
 use Rattle.rules.specs.Limits.{sizesInRange, mostTerms}
 use Rattle.rules.specs.Search.{Found, none, found}
 use Rattle.rules.specs.Problem.{Problem, s, N}
-use Rattle.rules.specs.Stages.{Run, run}
+use Rattle.rules.specs.Stages.{run}
 use Rattle.rules.specs.Formulas.{Formula, d}
 use Rattle.rules.specs.Calls.{Verdict, taken, refused, translateVerdict, contentsH, contentsV, contentsW, translatedExponents}
 use Rattle.rules.specs.Bytes.{byteAt, short, long, shorts, byte, twoBytes, fourBytes, bytesOf}

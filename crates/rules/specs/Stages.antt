@@ -4,7 +4,7 @@ use mathlib.Core.Bool.{Bool, true, false, not, _&&_}
 use mathlib.Core.List.{List}
 use Prim.Native.Nat.{ℕ, zero, suc, _-_}
 use lib.Dec.{ltb, eqb}
-use lib.IntN.{ℤ, pos, negsuc, negℤ, natAbs}
+use lib.IntN.{ℤ, pos, negℤ, natAbs}
 use lib.Signed.{quotZ, ltZ}
 use Rattle.whole.specs.Division.{floorZ}
 use Rattle.whole.specs.Matrix.{Matrix}
@@ -55,7 +55,7 @@ unfoldable pub eliminate : Table → (lo a k : ℕ) → State → State
 eliminate tb lo a k u = repeatA (total (size tb u k) lo a) tb lo a k u
 
 -- ---- (B), in row k
--- "let q be the negated floor of entry c by entry b; where q is not 0, add q times column b to column c"
+-- "let q be the negated floor of entry k by entry a; where q is not 0, add q times column a to column k": here b is a, the pivot's column, and c is k
 unfoldable pub reduce : Table → (k b c : ℕ) → State → State
 reduce tb k b c u =
     let q : ℤ = negℤ (floorZ (get tb u k c) (get tb u k b)) in
@@ -99,7 +99,8 @@ rows tb n lo (suc k) g = rows tb n lo k (row tb n lo k g)
 unfoldable pub stage1 : (m n : ℕ) → State → Progress
 stage1 m n u = rows onT n 0 m (record { state = u; a = n })
 
--- "Stage 2 starts with a = N again and does the same on the rows of V instead of T, last to first, with columns r + 1 to a"
+-- "Stage 2 starts with a = N again and does the same, the passing over of all-zero rows included, on the rows of V instead of T, last to first, with
+-- columns r + 1 to a in place of 1 to a; nothing is reordered."
 unfoldable pub stage2 : (n r : ℕ) → State → Progress
 stage2 n r u = rows onV n r n (record { state = u; a = n })
 
@@ -107,7 +108,7 @@ stage2 n r u = rows onV n r n (record { state = u; a = n })
 abbrev pub pivotRow : (n c : ℕ) → State → Found
 pivotRow n c u = last (λ k. not (eqb (size onV u k c) 0)) n
 
--- "for each k from 1 to r, q is the negated floor of entry k by the pivot; where q is not 0, add q times the pivot's column"
+-- "for each k from 1 to r, q is the negated floor of entry k by the pivot; where q is not 0, add q times the pivot's column to column k"
 abbrev pub reduceFirst : (r c : ℕ) → State → Found → State
 reduceFirst r c u none = u
 reduceFirst r c u (found k) = each (reduce onV k c) 0 r u

@@ -1,5 +1,5 @@
 -- Document 01, "The steps": the work state and the three column steps, on whole numbers without limit.
-use mathlib.Core.Bool.{Bool, true, false, _||_}
+use mathlib.Core.Bool.{Bool, false, _||_}
 use mathlib.Core.List.{List, [], _∷_, _++_, map}
 use Prim.Native.Nat.{ℕ, zero, suc}
 use lib.ListN.{length, getD, take, drop, set, replicate}

@@ -1,6 +1,6 @@
 -- The floored quotient: the largest whole number that is no larger than a divided by b.
 -- (The quotient cut toward zero and its remainder are the language's own, quotZ and remZ of lib.Signed.)
-use Prim.Native.Nat.{ℕ, zero, suc, _/_}
+use Prim.Native.Nat.{zero, suc, _/_}
 use lib.IntN.{ℤ, pos, negsuc}
 
 -- by the signs of a and b; negsuc a is -(a + 1)
