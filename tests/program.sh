@@ -1,5 +1,5 @@
 #!/usr/bin/env bash
-# Runs the proved program on each tests/program/NAME.in, on a stack of 2 MB, and holds what it prints to NAME.out: the input
+# Runs the proved program on each tests/program/NAME.in, on a stack of 1 MB, and holds what it prints to NAME.out: the input
 # as a file, byte by byte through a pipe, and with a read that fails after it. Then an input that cannot be read at all, and
 # an output that cannot be written.
 set -u
@@ -11,7 +11,7 @@ mkfifo "$dir/pipe"
 passed=0 failed=0
 
 # The program on standard input, its output to $dir/out.
-run() { (ulimit -s 2048 && exec timeout 60 "$program") >"$dir/out"; }
+run() { (ulimit -s 1024 && exec timeout 60 "$program") >"$dir/out"; }
 
 # The input's bytes in a pipe that stays open and is not waited for: the read after them fails. (dd sets that flag of the pipe.)
 run_broken() {

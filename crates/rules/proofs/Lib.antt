@@ -1,2 +1,3 @@
--- The only theorems of this crate: document 01's starred problems, its trap and its whole example, as one proved list.
+-- The only theorems of this crate, all by computing: document 01's starred problems with its whole example, as one proved list, and what an error that
+-- looks right would change.
 pub mod Starred

@@ -27,10 +27,10 @@ fn problems(m: usize, n: usize) -> Vec<Problem> {
     found
 }
 
-/// The µs per call: the least of five rounds, each over all of the calls, many times.
+/// The µs per call: the least of twenty rounds, each over all of the calls, many times.
 fn least_of_rounds<Call>(calls: &[Call], mut one: impl FnMut(&Call)) -> f64 {
     let mut least = f64::INFINITY;
-    for _ in 0..5 {
+    for _ in 0..20 {
         let mut builds = 0;
         let begin = Instant::now();
         while begin.elapsed().as_millis() < 100 {
