@@ -13,12 +13,12 @@ use lib.IntN.{ℤ, natAbs}
 use borrow.Author.Tests.{not-true, not-false}
 use Rattle.whole.specs.Lists.{nth}
 use Rattle.whole.proofs.Tests.{Test, pass, fail, lt?, is-true, is-false}
-use Rattle.rules.specs.Limits.{M, beyond, sizesInRange}
+use Rattle.rules.specs.Limits.{M, beyond}
 use Rattle.rules.specs.Search.{Found, none, found, first}
 use Rattle.rules.specs.Problem.{Problem}
 use Rattle.rules.specs.Stages.{Run, run}
 use Rattle.rules.specs.Formulas.{Free, passes, d, translated, Formula, terms, term}
-use Rattle.rules.specs.Calls.{Check, Verdict, taken, refused, verdict, firstOut, moduliCheck, entriesCheck, exponentsCheck, rangeCheck, termsCheck, termsFault, termRefused, termNumber}
+use Rattle.rules.specs.Calls.{Check, Verdict, taken, refused, verdict, firstOut, exponentsCheck, rangeCheck, termsCheck, termsFault, termRefused, termNumber}
 use Rattle.rules.specs.Calls.{buildVerdict, weighVerdict, translateVerdict}
 use Rattle.theory.proofs.Search.{In, Nowhere, none?, FirstIs, no-first, is-first, first-is, first-nowhere}
 use Rattle.theory.proofs.Weights.{isFree?, isFree-yes, isFree-no}

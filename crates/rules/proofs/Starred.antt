@@ -11,9 +11,9 @@ use lib.IntN.{ℤ, pos, negsuc, negℤ}
 use Rattle.whole.specs.Lists.{nth, tab}
 use Rattle.whole.specs.Sum.{sum}
 use Rattle.rules.specs.Search.{first, last, smallest, total, each}
-use Rattle.rules.specs.Problem.{Problem, modulusRowsFrom, s, columns}
+use Rattle.rules.specs.Problem.{Problem, modulusRowsFrom, columns}
 use Rattle.rules.specs.Steps.{State, get, getW, step, swapStep, negateStep, addStep, reorder, startLines}
-use Rattle.rules.specs.Stages.{Run, size, next, repeatA, eliminate, reduce, bring, makePositive, settle, row, rows, stage1, stage2, stage3, runOn, run}
+use Rattle.rules.specs.Stages.{size, next, repeatA, eliminate, reduce, bring, makePositive, settle, row, rows, stage1, stage2, stage3, runOn, run}
 use Rattle.rules.specs.Formulas.{Formula, rowTimes, remainder, weight, isFree, kOf, kAnd, d, translated, group, passes}
 use Rattle.rules.specs.Calls.{Verdict, taken, refused, firstOut, buildVerdict, weighVerdict, translateVerdict, problemFits, formulaFits, contentsH, contentsV, contentsW, weights, translatedExponents, buildOf, weighOf, translateOf}
 use Rattle.rules.specs.Bytes.{short, long, shorts, longs, bytesOf}

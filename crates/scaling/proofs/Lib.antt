@@ -16,9 +16,9 @@ pub mod Steps
 --     TableRow      a row of the table that a stage looks at, in the flat list: where it lies, its entries, their size
 --     Tracking      how an addition counts, and the two ways in which a state tracks one
 --     Searched      (A)'s two searches by the code, and what (A) does next
---     Repeating     a repetition of (A): what it asks, where it stops, how it goes on; the first one
+--     Repeating     repetitions of (A): what each asks, where they end, how they go on; the first one
 --     Reducing      the parts of (B): the pivot's column to its place, its sign, one column into range
---     Settling      columns into range one after the other, and the whole of (B)
+--     Settling      columns into range one after the other, those that are already passed over, and the whole of (B)
 --     Rowing        one row
 --     RowScan       the scan of a row for its smallest entry
 --     AllRows       all rows of a stage

@@ -22,7 +22,7 @@ use Rattle.scaling.specs.declared.work.Work.{Work}
 use Rattle.scaling.specs.declared.work.Repeated.{Repeated}
 use Rattle.scaling.specs.Join.{stateOf, Fine, Two, Tracks, most, tableFor, heightFor}
 use Rattle.scaling.specs.Scan.{Other, Divisible}
-use Rattle.scaling.specs.Rows.{sizesIn, left, Ready, Eliminated, Further, Repeats}
+use Rattle.scaling.specs.Rows.{sizesIn, left, Ready, Eliminated, Repeats}
 use Rattle.scaling.proofs.TableRow.{RowIn, size-in, size-small}
 use Rattle.scaling.proofs.State.{state-steps}
 use Rattle.scaling.proofs.Tracking.{add-steps, over-tracks, same-tracks}

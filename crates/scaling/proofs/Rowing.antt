@@ -3,18 +3,15 @@ use mathlib.Core.Path.{_≡_, sym, _∙_, ap}
 use mathlib.Core.Logic.{_≢_}
 use mathlib.Core.Bool.{Bool, true, false}
 use mathlib.Core.List.{List}
-use Prim.Native.Nat.{ℕ, zero, suc, _+_, _*_, _-_, _≤_, _<_}
-use native.Mathlib.Nat.{mul-suc}
+use Prim.Native.Nat.{ℕ, _+_, _*_, _-_, _≤_, _<_}
 use native.Mathlib.Omega.{arith}
 use native.Mathlib.Decide.{ℕ-discrete}
 use lib.IntN.{ℤ}
-use Rattle.whole.proofs.Tests.{Test, pass, fail, lt?}
 use Rattle.rules.specs.Limits.{M}
-use Rattle.rules.specs.Search.{total}
 use Rattle.rules.specs.Steps.{State}
 use Rattle.rules.specs.Stages.{size, isOther, eliminate, settle, row, Progress}
 use Rattle.whole.proofs.Tests.{true-not-false, passed, failed}
-use Rattle.theory.proofs.Search.{In, is-other, Smallest, first-there, first-nowhere, smallest-there}
+use Rattle.theory.proofs.Search.{In, is-other, Smallest, total-le, first-there, first-nowhere, smallest-there}
 use Rattle.theory.proofs.Loops.{Worked, row-works}
 use Rattle.theory.proofs.Flag.{settle-over}
 use Rattle.scaling.specs.declared.work.Work.{Work}
@@ -26,15 +23,6 @@ use Rattle.scaling.proofs.Tracking.{over-tracks}
 use Rattle.scaling.proofs.Repeating.{Begun}
 use Rattle.scaling.proofs.Settling.{Settled}
 
-total-le : (f : ℕ → ℕ) (most lo a : ℕ) → ((c : ℕ) → In lo a c → f c ≤ most) → total f lo a ≤ most * a
-unfolding total
-total-le f most lo zero h = omega arith
-total-le f most lo (suc a) h = go (lt? a lo) (total-le f most lo a (λ c i. h c (omega arith)))
-  where
-    go : {b : Bool} → Test (a < lo) (lo ≤ a) b → total f lo a ≤ most * a → _≤_ (elim b [ true ↦ 0 | false ↦ total f lo a + f a ]) (most * suc a)
-    go (pass k) r = omega arith
-    go (fail k) r = omega (arith, h a (omega arith), mul-suc most a)
-
 module _ {stage2 : Bool} {m n k lo a p : ℕ} {s : Work} (f : Fine m n s) (b : RowBegun stage2 m n k lo a p s) where
   p-is : Smallest (sizesIn stage2 m n s k) lo a p
   p-is = smallest-there (sizesIn stage2 m n s k) lo a p (b .smallest)
@@ -42,8 +30,8 @@ module _ {stage2 : Bool} {m n k lo a p : ℕ} {s : Work} (f : Fine m n s) (b : R
   pub row-p : In lo a p
   row-p = p-is .within
 
-  left-small : left stage2 m n s k lo a ≤ M * a
-  left-small = total-le (sizesIn stage2 m n s k) M lo a (λ c i. size-small stage2 f (b .row-in) c (omega (arith, i .high, b .a-in)))
+  left-small : left stage2 m n s k lo a ≤ M * (a - lo)
+  left-small = total-le lo (sizesIn stage2 m n s k) M a (λ c i. size-small stage2 f (b .row-in) c (omega (arith, i .high, b .a-in)))
 
   pub row-begun : Begun stage2 m n k lo a p s
   row-begun = record { row-in = b .row-in; a-in = b .a-in; smallest = b .smallest; room = omega (arith, left-small, b .room, b .a-in, f .cols) }

@@ -5,17 +5,17 @@ use mathlib.Core.List.{List}
 use Prim.Native.Nat.{ℕ, zero, suc, _+_, _*_, _≤_, _<_}
 use native.Mathlib.Omega.{arith}
 use native.Mathlib.Numerals.{add-one}
-use native.Mathlib.Decide.{ℕ-discrete, decLt}
-use lib.Dec.{eqb}
+use native.Mathlib.Decide.{ℕ-discrete}
 use lib.IntN.{ℤ, pos, natAbs}
 use lib.Signed.{ltZ}
 use Rattle.whole.proofs.Order.{abs-neg}
 use Rattle.whole.proofs.Exchange.{tr-second}
 use Rattle.rules.specs.Search.{each}
-use Rattle.rules.specs.Steps.{State, Table, get, swapStep, negateStep, step}
+use Rattle.rules.specs.Steps.{State, Table, get, negateStep}
 use Rattle.rules.specs.Stages.{size, bring, makePositive, reduce, settle}
 use Rattle.whole.proofs.Tests.{true-not-false}
-use Rattle.theory.proofs.Loops.{each-start, each-step}
+use Rattle.theory.proofs.Loops.{each-start, each-step, each-skip}
+use Rattle.theory.proofs.StepBound.{bring-steps, makePositive-steps}
 use Rattle.theory.proofs.StepLines.{count}
 use Rattle.theory.proofs.Entries.{swap-get, negate-at}
 use Rattle.theory.proofs.Flag.{reduce-over}
@@ -108,17 +108,6 @@ module _ {stage2 : Bool} {m n row b : ℕ} {s : Work} where
         }
 
 -- ---- columns that are in range already
-each-skip : {S : Type 0} (f : ℕ → S → S) (lo c : ℕ) (s : S) → ((i : ℕ) → lo ≤ i → i < c → f i s ≡ s) → lo ≤ c
-    → (hi : ℕ) → each f lo hi s ≡ each f c hi s
-each-skip f lo c s still l zero = each-start f lo s 0 (omega arith) ∙ sym (each-start f c s 0 (omega arith))
-each-skip f lo c s still l (suc h) = go (decLt h lo) (decLt h c) (each-skip f lo c s still l h)
-  where
-    go : Dec (h < lo) → Dec (h < c) → each f lo h s ≡ each f c h s → each f lo (suc h) s ≡ each f c (suc h) s
-    go (yes x) y r = each-start f lo s (suc h) x ∙ sym (each-start f c s (suc h) (omega arith))
-    go (no x) (yes y) r = each-step f lo s h (omega arith) ∙ ap (f h) (r ∙ each-start f c s h (omega arith)) ∙ still h (omega arith) y
-        ∙ sym (each-start f c s (suc h) y)
-    go (no x) (no y) r = each-step f lo s h (omega arith) ∙ ap (f h) r ∙ sym (each-step f c s h (omega arith))
-
 module _ {stage2 : Bool} {m n row b : ℕ} {s : Work} {xs : List ℤ} (r : RowIn stage2 m n row s xs) (f : Fine m n s) (p : Pivot stage2 m n row b s n)
     {hi : ℕ} (fit : hi ≤ n) where
   pub pivot-divisors : Divisors xs (row * n) b hi
@@ -160,14 +149,6 @@ bring-size tb p b row u hp hb = go (ℕ-discrete p b)
     go (yes d) = rw (d, bring-not b u)
     go (no d) = rw (bring-swaps p b u d) (ap natAbs (swap-get p b u hp hb tb row b ∙ ap (get tb u row) (tr-second p b)))
 
-bring-steps : (p b : ℕ) (u : State) → bring p b u .steps ≤ u .steps + 1
-unfolding bring swapStep step
-bring-steps p b u = go (eqb p b)
-  where
-    go : (x : Bool) → let w : State = elim x [ true ↦ u | false ↦ swapStep p b u ] in w .steps ≤ u .steps + 1
-    go true = omega arith
-    go false = omega arith
-
 positive-size : (tb : Table) (b row : ℕ) (u : State) → b < count u → size tb (makePositive tb row b u) row b ≡ size tb u row b
 unfolding size makePositive
 positive-size tb b row u h = go (ltZ (get tb u row b) (pos 0))
@@ -175,17 +156,6 @@ positive-size tb b row u h = go (ltZ (get tb u row b) (pos 0))
     go : (x : Bool) → natAbs (get tb (elim x [ true ↦ negateStep b u | false ↦ u ]) row b) ≡ natAbs (get tb u row b)
     go true = ap natAbs (negate-at b u h tb row) ∙ abs-neg (get tb u row b)
     go false = refl
-
-positive-steps : (tb : Table) (b row : ℕ) (u : State) → makePositive tb row b u .steps ≤ u .steps + 1
-unfolding makePositive negateStep step
-positive-steps tb b row u = go (ltZ (get tb u row b) (pos 0))
-  where
-    go : (x : Bool) → let w : State = elim x [ true ↦ negateStep b u | false ↦ u ] in w .steps ≤ u .steps + 1
-    go true = omega arith
-    go false = omega arith
-
-pub later-apart : (n b : ℕ) → Apart n b (b + 1) n
-later-apart n b = record { upto = omega arith; apart = λ c x y e. omega arith }
 
 module _ {stage2 : Bool} {m n row p : ℕ} {s : Work} (g : Pivot stage2 m n row p s (n + 2)) (b : ℕ) (hb : b < n)
     {s₁ : Work} (e₁ : Same m n s₁ (bring p b (stateOf m n s))) where
@@ -205,7 +175,7 @@ module _ {stage2 : Bool} {m n row p : ℕ} {s : Work} (g : Pivot stage2 m n row 
         omega (
           arith,
           brought-steps,
-          positive-steps (tableFor stage2) b row (stateOf m n s₁),
+          makePositive-steps (tableFor stage2) row b (stateOf m n s₁),
           ap (λ (u : State). u .steps) (e₂ .same),
           state-steps m n s₁,
           state-steps m n s₂,

@@ -10,7 +10,6 @@ use Rattle.rules.specs.Limits.{beyond, roomH, roomV, roomW, roomCoefficients, r
 use Rattle.rules.specs.Problem.{Problem, N}
 use Rattle.rules.specs.Stages.{run, W}
 use Rattle.rules.specs.Formulas.{Formula, terms, term, translated, d}
-use Rattle.rules.specs.Calls as calls
 use Rattle.rules.specs.Calls.{Built, Weighed, Translated, termRefused, termNumber}
 use Rattle.scaling.specs.declared.BuildAnswer.{BuildAnswer}
 use Rattle.scaling.specs.declared.WeighAnswer.{WeighAnswer}

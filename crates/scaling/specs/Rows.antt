@@ -1,12 +1,11 @@
 -- (A), (B), a row, all rows and stage 3, on the code's state. row is the row's number, lo to a are the active columns.
 use mathlib.Core.Path.{_≡_}
 use mathlib.Core.Logic.{_≢_}
-use mathlib.Core.Bool.{Bool, false, true}
-use Prim.Native.Nat.{ℕ, suc, _+_, _-_, _*_, _<_, _≤_}
+use mathlib.Core.Bool.{Bool, false}
+use Prim.Native.Nat.{ℕ, _+_, _-_, _*_, _<_, _≤_}
 use lib.IntN.{ℤ}
 use Rattle.rules.specs.Search.{found, smallest, total, each}
-use Rattle.rules.specs.Steps.{State, onV}
-use Rattle.rules.specs.Stages.{size, Next, adds, next, eliminate, reduce, row, rows, stage3, Progress}
+use Rattle.rules.specs.Stages.{size, adds, next, eliminate, reduce, row, rows, Progress}
 use Rattle.scaling.specs.declared.work.Work.{Work}
 use Rattle.scaling.specs.declared.work.Repeated.{Repeated}
 use Rattle.scaling.specs.Join.{stateOf, Fine, Tracks, most, tableFor, heightFor}

@@ -1,7 +1,7 @@
 // Weights, and the translation of one term: its exponents stand in a lent list, from an index on.
 ghost use mathlib.Core.Path.{_≡_};
 ghost use mathlib.Core.Bool.{not};
-ghost use Prim.Native.Nat.{ℕ, _<_, _≤_, _+_, _-_, _*_};
+ghost use Prim.Native.Nat.{_<_, _≤_, _+_, _-_, _*_};
 ghost use lib.ListN.{length};
 ghost use lib.IntN.{natAbs, _*ℤ_};
 ghost use lib.Signed.{quotZ};

@@ -2,9 +2,6 @@
 ghost use mathlib.Core.Path.{_≡_};
 ghost use Prim.Native.Nat.{_<_, _≤_, _+_, _*_};
 ghost use lib.ListN.{length};
-ghost use lib.IntN.{pos};
-ghost use Rattle.whole.specs.Lists.{nth};
-ghost use Rattle.whole.specs.Matrix.{δ};
 ghost use Rattle.rules.specs.Problem.{s, N, C, columns, WellFormed};
 ghost use Rattle.rules.specs.Steps as steps;
 ghost use Rattle.scaling.specs.Join.{Same};

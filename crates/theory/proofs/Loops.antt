@@ -1,10 +1,10 @@
 -- The recursions of rules/specs as a loop meets them: before the first index, one index more, and the way out.
-use mathlib.Core.Path.{_≡_, refl, _∙_, ap}
+use mathlib.Core.Path.{_≡_, refl, sym, _∙_, ap}
 use mathlib.Core.Logic.{_≢_}
 use mathlib.Core.Bool.{Bool, true, false}
 use Prim.Native.Nat.{ℕ, zero, suc, _-_, _≤_, _<_}
 use native.Mathlib.Omega.{arith}
-use native.Mathlib.Decide.{ℕ-discrete}
+use native.Mathlib.Decide.{ℕ-discrete, decLt}
 use borrow.Author.Tests.{lt-ltb, le-ltb}
 use Rattle.rules.specs.Search.{Found, none, found, orAt, first, last, orSmaller, smallest, each}
 use Rattle.rules.specs.Steps.{State, Table}
@@ -75,6 +75,18 @@ module _ {S : Type 0} (f : ℕ → S → S) (lo : ℕ) (s : S) where
   pub each-step : (c : ℕ) → lo ≤ c → each f lo (suc c) s ≡ f c (each f lo c s)
   unfolding each
   each-step c h = rw (le-ltb c lo h, each)
+
+-- indices from lo on at which nothing changes are passed over
+pub each-skip : {S : Type 0} (f : ℕ → S → S) (lo c : ℕ) (s : S) → ((i : ℕ) → lo ≤ i → i < c → f i s ≡ s) → lo ≤ c
+    → (hi : ℕ) → each f lo hi s ≡ each f c hi s
+each-skip f lo c s still l zero = each-start f lo s 0 (omega arith) ∙ sym (each-start f c s 0 (omega arith))
+each-skip f lo c s still l (suc h) = go (decLt h lo) (decLt h c) (each-skip f lo c s still l h)
+  where
+    go : Dec (h < lo) → Dec (h < c) → each f lo h s ≡ each f c h s → each f lo (suc h) s ≡ each f c (suc h) s
+    go (yes x) y r = each-start f lo s (suc h) x ∙ sym (each-start f c s (suc h) (omega arith))
+    go (no x) (yes y) r = each-step f lo s h (omega arith) ∙ ap (f h) (r ∙ each-start f c s h (omega arith)) ∙ still h (omega arith) y
+        ∙ sym (each-start f c s (suc h) y)
+    go (no x) (no y) r = each-step f lo s h (omega arith) ∙ ap (f h) r ∙ sym (each-step f c s h (omega arith))
 
 -- ---- the rows of a stage, from the last to the first
 module _ (tb : Table) (n lo : ℕ) (g : Progress) where

@@ -2,8 +2,9 @@
 use mathlib.Core.Path.{_≡_, refl, sym, _∙_, ap, subst}
 use mathlib.Core.Logic.{_≢_}
 use mathlib.Core.Bool.{Bool, true, false, not, _&&_}
-use Prim.Native.Nat.{ℕ, zero, suc, _+_, _≤_, _<_}
+use Prim.Native.Nat.{ℕ, zero, suc, _+_, _*_, _-_, _≤_, _<_}
 use native.Mathlib.Omega.{arith}
+use native.Mathlib.Nat.{mul-suc}
 use native.Mathlib.Decide.{ℕ-discrete}
 use lib.Dec.{ltb}
 use Rattle.whole.proofs.Tests.{Test, pass, fail, lt?, eq?, passed}
@@ -241,6 +242,18 @@ module _ (lo : ℕ) where
       go (fail k) r = omega (arith, r k, h c (omega arith))
 
   -- less at one index, the same at the others
+  pub total-le : (f : ℕ → ℕ) (most hi : ℕ) → ((c : ℕ) → In lo hi c → f c ≤ most) → total f lo hi ≤ most * (hi - lo)
+  unfolding total
+  total-le f most zero h = omega arith
+  total-le f most (suc c) h = go (lt? c lo) (total-le f most c (λ d i. h d (omega arith)))
+    where
+      go : {b : Bool} → Test (c < lo) (lo ≤ c) b → total f lo c ≤ most * (c - lo)
+          → _≤_ (elim b [ true ↦ 0 | false ↦ total f lo c + f c ]) (most * (suc c - lo))
+      go (pass k) r = omega arith
+      go (fail k) r =
+          let e : suc c - lo ≡ suc (c - lo) = omega arith in
+          rw e (omega (arith, h c (omega arith), mul-suc most (c - lo)))
+
   pub total-less : (f g : ℕ → ℕ) (hi j : ℕ) → In lo hi j → g j < f j → ((c : ℕ) → In lo hi c → j ≢ c → g c ≡ f c) → total g lo hi < total f lo hi
   unfolding total
   total-less f g zero j i l h = absurd (omega arith)

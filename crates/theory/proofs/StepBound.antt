@@ -14,7 +14,7 @@ use Rattle.rules.specs.Limits.{M, isZero}
 use Rattle.rules.specs.Search.{Found, none, found, total, each}
 use Rattle.rules.specs.Steps.{State, Table, onV, get, swapStep, negateStep, addStep}
 use Rattle.rules.specs.Stages.{size, Next, done, adds, next, repeatA, eliminate, reduce, bring, makePositive, settle, Progress, settled, row, rows, pivotRow, reduceFirst, stage3}
-use Rattle.theory.proofs.Search.{total-less, SmallestIs, all-zero, is-smallest, smallest-is}
+use Rattle.theory.proofs.Search.{total-le, total-less, SmallestIs, all-zero, is-smallest, smallest-is}
 use Rattle.theory.proofs.StepLines.{swap-steps, negate-steps, add-steps}
 use Rattle.theory.proofs.Sequence.{begin, follow}
 use Rattle.theory.proofs.Eliminate.{size-off, once}
@@ -28,18 +28,9 @@ use Rattle.theory.proofs.Bits.{bits, bits-le, bits-half}
 unfoldable pub rowBits : Table → (lo a k : ℕ) → State → ℕ
 rowBits tb lo a k u = total (λ c. bits 31 (size tb u k c)) lo a
 
-total-le : (f : ℕ → ℕ) (lo hi : ℕ) → ((c : ℕ) → f c ≤ 31) → total f lo hi ≤ 31 * (hi - lo)
-unfolding total
-total-le f lo zero h = omega arith
-total-le f lo (suc c) h = go (lt? c lo) (total-le f lo c h)
-  where
-    go : {b : Bool} → Test (c < lo) (lo ≤ c) b → total f lo c ≤ 31 * (c - lo) → _≤_ (elim b [ true ↦ 0 | false ↦ total f lo c + f c ]) (31 * (suc c - lo))
-    go (pass k) r = omega arith
-    go (fail k) r = omega (arith, h c)
-
 pub rowBits-le : (tb : Table) (lo a k : ℕ) (u : State) → rowBits tb lo a k u ≤ 31 * (a - lo)
 unfolding rowBits
-rowBits-le tb lo a k u = total-le (λ c. bits 31 (size tb u k c)) lo a (λ c. bits-le 31 (size tb u k c))
+rowBits-le tb lo a k u = total-le lo (λ c. bits 31 (size tb u k c)) 31 a (λ c _. bits-le 31 (size tb u k c))
 
 -- ---- (A): also in a row where it is refused, since in that row (A) only makes entries smaller
 module _ (tb : Table) (lo a k : ℕ) where
@@ -100,7 +91,7 @@ reduces-steps tb k b lo (suc c) u = go (lt? c lo) (reduces-steps tb k b lo c u)
     go (pass h) r = omega arith
     go (fail h) r = omega (arith, reduce-steps tb k b c w)
 
-bring-steps : (p b : ℕ) (u : State) → bring p b u .steps ≤ suc (u .steps)
+pub bring-steps : (p b : ℕ) (u : State) → bring p b u .steps ≤ suc (u .steps)
 unfolding bring
 bring-steps p b u = go (eqb p b)
   where
@@ -108,7 +99,7 @@ bring-steps p b u = go (eqb p b)
     go true = omega arith
     go false = omega (arith, swap-steps p b u)
 
-makePositive-steps : (tb : Table) (k b : ℕ) (u : State) → makePositive tb k b u .steps ≤ suc (u .steps)
+pub makePositive-steps : (tb : Table) (k b : ℕ) (u : State) → makePositive tb k b u .steps ≤ suc (u .steps)
 unfolding makePositive
 makePositive-steps tb k b u = go (ltZ (get tb u k b) (pos 0))
   where

@@ -1,6 +1,6 @@
 -- `problems::number` meets its contract: a negative number's opposite fits 64 bits and is not negative, and neither is any other number.
-use mathlib.Core.Path.{_≡_, ap, sym, _∙_}
-use mathlib.Core.Bool.{Bool, true, false}
+use mathlib.Core.Path.{_≡_}
+use mathlib.Core.Bool.{true, false}
 use native.Mathlib.Omega.{arith}
 use borrow.Author.Needs.{needs}
 use lib.IntN.{ℤ, pos, negℤ, natAbs, +ℤ-idl}

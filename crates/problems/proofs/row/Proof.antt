@@ -1,5 +1,5 @@
 -- `problems::row` meets its contract: every entry that it reads is in the list, and each turn of the loop comes nearer to the width.
-use Prim.Native.Nat.{ℕ, _≤_, _-_}
+use Prim.Native.Nat.{_≤_, _-_}
 use native.Mathlib.Omega.{arith}
 use borrow.Author.Needs.{needs}
 use Rattle.problems.proofs.row.Statement.{statement}

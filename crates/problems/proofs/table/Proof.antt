@@ -1,5 +1,5 @@
 -- `problems::table` meets its contract: each turn of the loop comes nearer to the height.
-use Prim.Native.Nat.{ℕ, _≤_, _-_}
+use Prim.Native.Nat.{_≤_, _-_}
 use native.Mathlib.Omega.{arith}
 use borrow.Author.Needs.{needs}
 use Rattle.problems.proofs.table.Statement.{statement}

@@ -1,16 +1,14 @@
 -- `work::unreduced` meets its contract: the columns below c are in range.
-use mathlib.Core.Path.{_≡_, sym, ap, _∙_, subst}
+use mathlib.Core.Path.{_≡_, sym, ap, _∙_}
 use mathlib.Core.Bool.{true}
-use Prim.Native.Nat.{ℕ, _+_, _-_, _≤_, _<_}
+use Prim.Native.Nat.{ℕ, _-_, _≤_, _<_}
 use native.Mathlib.Omega.{arith}
-use native.Mathlib.Numerals.{add-one}
-use lib.IntN.{ℤ}
 use borrow.Author.Needs.{needs}
 use borrow.Author.Tests.{not-false, not-true}
 use mir.Syntax.{w64}
 use mir.Facts.{toZ-ofZ}
 use Rattle.rules.specs.Limits.{isZero}
-use Rattle.scaling.specs.Scan.{inRange, Unreduced}
+use Rattle.scaling.specs.Scan.{inRange}
 use Rattle.whole.proofs.Order.{below-suc}
 use Rattle.scaling.proofs.work.unreduced.Statement.{statement}
 use Rattle.scaling.proofs.work.unreduced.Tie as tie

@@ -7,8 +7,6 @@ use denote.Ref.{now}
 use mir.Syntax.{w64}
 use mir.Val.{toZ, ofZ}
 use mir.Facts.{toZ-ofZ}
-use Rattle.rules.specs.Steps.{addStep}
-use Rattle.scaling.specs.Join.{stateOf, Tracks}
 use Rattle.scaling.proofs.State.{Long}
 use Rattle.scaling.proofs.TableRow.{RowIn, row-of-table, row-short}
 use Rattle.scaling.proofs.Repeating.{GoesOn, two-columns, lo-le-a, q-fits, eliminated-here, goes-on}
