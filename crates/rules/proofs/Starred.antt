@@ -36,7 +36,7 @@ abbrev -4 : ℤ
 abbrev -5 : ℤ
 -5 = negsuc 4
 
-abbrev problem : (m n : ℕ) (matrix moduli : List ℤ) → Problem
+abbrev pub problem : (m n : ℕ) (matrix moduli : List ℤ) → Problem
 problem m n matrix moduli = record { m = m; n = n; matrix = matrix; moduli = moduli }
 
 -- a formula of one term
@@ -44,7 +44,7 @@ abbrev monomial : ℤ → List ℤ → Formula
 monomial c es = record { coefficients = c ∷ []; exponents = es }
 
 -- a single row
-abbrev alone : List ℤ → (modulus : ℤ) → Problem
+abbrev pub alone : List ℤ → (modulus : ℤ) → Problem
 alone row p = problem 1 (length row) row (p ∷ [])
 
 -- as the calls judge them, with room enough lent
@@ -95,10 +95,10 @@ problem2 = problem 1 1 (-5 ∷ []) (pos 0 ∷ [])
 abbrev problem3 : Problem
 problem3 = problem 1 1 (pos 0 ∷ []) (pos 1 ∷ [])
 
-abbrev problem4 : Problem
+abbrev pub problem4 : Problem
 problem4 = problem 1 2 (pos 1 ∷ pos 2 ∷ []) (pos 0 ∷ [])
 
-abbrev problem5 : Problem
+abbrev pub problem5 : Problem
 problem5 = problem 1 3 (pos 1 ∷ pos 2 ∷ pos 0 ∷ []) (pos 3 ∷ [])
 
 abbrev problem8 : Problem
@@ -117,7 +117,7 @@ problem9 = problem 3 4 (
 abbrev towardZero : Problem
 towardZero = problem 2 2 (pos 3 ∷ -2 ∷ pos 0 ∷ pos 1 ∷ []) (pos 0 ∷ pos 0 ∷ [])
 
-abbrev widest : Problem
+abbrev pub widest : Problem
 widest = alone (pos 917 ∷ negℤ (pos 618) ∷ negℤ (pos 541) ∷ negℤ (pos 185) ∷ []) (pos 0)
 
 -- ---- the list

@@ -28,10 +28,14 @@ abbrev pub verdict : List Check → Verdict
 verdict [] = taken
 verdict (c ∷ cs) = elim (c .fault) [ none ↦ verdict cs | found place ↦ refused (c .number) place ]
 
+-- the place of a check with a single test
+abbrev pub unlessAt : (place : ℕ) → Bool → Found
+unlessAt place true = none
+unlessAt place false = found place
+
 -- "where a paper names none, it is 0"
 abbrev pub unless : Bool → Found
-unless true = none
-unless false = found 0
+unless = unlessAt 0
 
 -- the first number of a list that a test does not pass
 unfoldable pub firstOut : (ℤ → Bool) → List ℤ → Found

@@ -40,6 +40,10 @@ mostTerms = 64
 abbrev pub exponentInRange : ℤ → Bool
 exponentInRange z = within (negℤ (pos 10_000)) (pos 10_000) z
 
+-- order 2: the exponents of a group that readings are put into, -64 to 64
+abbrev pub powerInRange : ℤ → Bool
+powerInRange z = within (negℤ (pos 64)) (pos 64) z
+
 -- "Outputs: H at least 192 entries, V and W 576 each, weights 8, translated coefficients 64, translated exponents 1,024."
 abbrev pub roomH : ℕ
 roomH = 192
