@@ -4,12 +4,13 @@ use mathlib.Core.List.{List}
 use Prim.Native.Nat.{ℕ, _+_, _*_, _≤_, _<_}
 use native.Mathlib.Omega.{arith}
 use native.Mathlib.Nat.{mul-le-mul}
-use lib.ListN.{length}
+use lib.Arith.{digits-lt}
+use lib.ListN.{length, drop, List·getD-append}
 use lib.IntN.{ℤ, pos}
 use Rattle.whole.specs.Lists.{nth, tab, join}
 use Rattle.whole.specs.Matrix.{Matrix}
 use Rattle.whole.proofs.Lists.{tab-cong, length-tab, nth-tab, length-join, join-at, lists-same}
-use Rattle.rules.specs.Calls.{grid}
+use Rattle.rules.specs.Calls.{grid, filled}
 
 abbrev pub table : (n : ℕ) → List ℤ → Matrix
 table n xs i j = nth xs (i * n + j)
@@ -32,3 +33,9 @@ table-grid m n A i j a b =
 pub grid-of-table : (m n : ℕ) (xs : List ℤ) → length xs ≡ m * n → grid m n (table n xs) ≡ xs
 grid-of-table m n xs e =
     lists-same m n (grid m n (table n xs)) xs (pos 0) (length-grid m n (table n xs)) e (λ i j a b. table-grid m n (table n xs) i j a b)
+
+-- a lent list that begins with a grid, behind which it is as it was
+pub table-filled : (m n : ℕ) (A : Matrix) (lent : List ℤ) (i j : ℕ) → i < m → j < n → table n (filled (grid m n A) lent) i j ≡ A i j
+table-filled m n A lent i j a b =
+    List·getD-append (grid m n A) (drop (length (grid m n A)) lent) (pos 0) (i * n + j) (omega (arith, length-grid m n A, digits-lt a b))
+    ∙ table-grid m n A i j a b

@@ -21,6 +21,10 @@
 --    takes few steps.
 --      Sizes.add-size, .row-begun-size, .translated-begun-fits, .room-for-H and its like; RunRange.well-formed-moderate,
 --      .run-entries, .run-entriesW; RunBound.run-bound
+-- 9. Order 2, of any exponents and readings: where the readings are powers of two and the running values stay in range, the value is exact;
+--    a running value that is zero or not finite stays so, and the last value tells; of the readings the first n decide.
+--      Powers.mul-two, .div-two, .two-fits, .fits-held; Operations.operations-sum; Exactness.group-exact, .between-held, .stays-in-range;
+--      LastValue.last-tells; Gauges.gauge-alike, .gauge-not-0
 
 -- ---- the tests of rules' Limits, grids and bytes of numbers, and the searches
 pub mod Limits
@@ -75,3 +79,9 @@ pub mod Refusals
 -- ---- for code: the recursions as loops meet them
 pub mod Loops
 pub mod Repetition
+-- ---- 9
+pub mod Powers
+pub mod Operations
+pub mod LastValue
+pub mod Exactness
+pub mod Gauges

@@ -1,4 +1,4 @@
--- No refusal has the number 0, and the build's checks are among the translation's.
+-- A number that no check of a list has is never given: no refusal has the number 0. The build's checks are among the translation's.
 use mathlib.Core.Path.{_≡_, refl, _∙_}
 use mathlib.Core.Logic.{_≢_}
 use mathlib.Core.Bool.{Bool, true, false}
@@ -15,24 +15,24 @@ use Rattle.rules.specs.Calls.{sizesCheck, inputsCheck, outputsCheck, moduliChec
 use Rattle.rules.specs.Calls.{buildVerdict, weighVerdict, translateVerdict}
 use Rattle.theory.proofs.Accepted.{all-pass, taken-of-all}
 
--- a check that finds a fault has a number that is not 0
-abbrev Numbered : Check → Type 0
-Numbered c = (place : ℕ) → c .fault ≡ found place → c .number ≢ 0
+-- a check that finds a fault has another number than k
+abbrev Numbered : (k : ℕ) → Check → Type 0
+Numbered k c = (place : ℕ) → c .fault ≡ found place → c .number ≢ k
 
-abbrev AllNumbered : List Check → Type 0
-AllNumbered [] = Unit {0}
-AllNumbered (c ∷ cs) = Numbered c × AllNumbered cs
+abbrev AllNumbered : (k : ℕ) → List Check → Type 0
+AllNumbered k [] = Unit {0}
+AllNumbered k (c ∷ cs) = Numbered k c × AllNumbered k cs
 
-not-0 : (cs : List Check) → AllNumbered cs → (k p : ℕ) → verdict cs ≡ refused k p → k ≢ 0
-not-0 [] a k p e = let z : _≡_ {A = ℕ} 0 1 = cc in absurd (omega arith)
-not-0 (c ∷ cs) a k p e = go (c .fault) (a .0) (not-0 cs (a .1) k p) e
+pub never-given : (bad : ℕ) (cs : List Check) → AllNumbered bad cs → (k p : ℕ) → verdict cs ≡ refused k p → k ≢ bad
+never-given bad [] a k p e = let z : _≡_ {A = ℕ} 0 1 = cc in absurd (omega arith)
+never-given bad (c ∷ cs) a k p e = go (c .fault) (a .0) (never-given bad cs (a .1) k p) e
   where
-    go : (x : Found) → ((place : ℕ) → x ≡ found place → c .number ≢ 0) → (verdict cs ≡ refused k p → k ≢ 0)
-        → elim x [ none ↦ verdict cs | found place ↦ refused (c .number) place ] ≡ refused k p → k ≢ 0
+    go : (x : Found) → ((place : ℕ) → x ≡ found place → c .number ≢ bad) → (verdict cs ≡ refused k p → k ≢ bad)
+        → elim x [ none ↦ verdict cs | found place ↦ refused (c .number) place ] ≡ refused k p → k ≢ bad
     go none n later e = later e
     go (found q) n later e = let f : c .number ≡ k = cc in λ z. n q refl (f ∙ z)
 
-terms-numbered : (P : Problem) (f : Formula) (x : Found) → Numbered (termsFault P f x)
+terms-numbered : (P : Problem) (f : Formula) (x : Found) → Numbered 0 (termsFault P f x)
 terms-numbered P f none place e = let z : _≡_ {A = ℕ} 0 1 = cc in absurd (omega arith)
 terms-numbered P f (found t) place e = go (isFree P (term P f t))
   where
@@ -44,17 +44,17 @@ module _ (P : Problem) (inputs outputs : Bool) where
   abbrev checks : List Check → List Check
   checks more = sizesCheck P ∷ inputsCheck inputs ∷ outputsCheck outputs ∷ moduliCheck P ∷ entriesCheck P ∷ more
 
-  five-numbered : (more : List Check) → AllNumbered more → AllNumbered (checks more)
+  five-numbered : (more : List Check) → AllNumbered 0 more → AllNumbered 0 (checks more)
   five-numbered more a =
       (λ q f z. omega arith, (λ q f z. omega arith, (λ q f z. omega arith, (λ q f z. omega arith, (λ q f z. omega arith, a)))))
 
   pub build-not-0 : (k p : ℕ) → buildVerdict P inputs outputs ≡ refused k p → k ≢ 0
   unfolding buildVerdict
-  build-not-0 k p e = not-0 (checks (rangeCheck (run P) ∷ [])) (five-numbered (rangeCheck (run P) ∷ []) (λ q f z. omega arith, tt)) k p e
+  build-not-0 k p e = never-given 0 (checks (rangeCheck (run P) ∷ [])) (five-numbered (rangeCheck (run P) ∷ []) (λ q f z. omega arith, tt)) k p e
 
   pub weigh-not-0 : (es : List ℤ) (k p : ℕ) → weighVerdict P es inputs outputs ≡ refused k p → k ≢ 0
   unfolding weighVerdict
-  weigh-not-0 es k p e = not-0 (checks (exponentsCheck es ∷ [])) (five-numbered (exponentsCheck es ∷ []) (λ q f z. omega arith, tt)) k p e
+  weigh-not-0 es k p e = never-given 0 (checks (exponentsCheck es ∷ [])) (five-numbered (exponentsCheck es ∷ []) (λ q f z. omega arith, tt)) k p e
 
   module _ (f : Formula) where
     abbrev rest : List Check
@@ -64,7 +64,7 @@ module _ (P : Problem) (inputs outputs : Bool) where
     unfolding translateVerdict
     translate-not-0 k p e =
         let last = terms-numbered P f (first (λ t. termRefused P (run P) (term P f t)) 0 (terms f)) in
-        not-0 (checks rest) (five-numbered rest (λ q f z. omega arith, (λ q f z. omega arith, (last, tt)))) k p e
+        never-given 0 (checks rest) (five-numbered rest (λ q f z. omega arith, (λ q f z. omega arith, (last, tt)))) k p e
 
     pub build-taken : translateVerdict P f inputs outputs ≡ taken → buildVerdict P inputs outputs ≡ taken
     unfolding translateVerdict buildVerdict
