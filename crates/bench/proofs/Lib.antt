@@ -6,6 +6,7 @@
 --     Outputs         what the code hands on for lent outputs, and what is written of it
 --     BuildCall       from the build of what was heard to the build of the bytes
 --     TranslateCall   the same for the translation
+--     GaugeCall       from the readings that the code gathers to those that were lent
 pub mod Bytes
 pub mod Rooms
 pub mod Verdicts
@@ -13,3 +14,4 @@ pub mod Inputs
 pub mod Outputs
 pub mod BuildCall
 pub mod TranslateCall
+pub mod GaugeCall

@@ -1,9 +1,14 @@
-// The bench's C calls: the build and the translation over bytes, each number in four of them, big-endian two's complement.
+// The bench's C calls: the build and the translation over bytes, each number in four of them, big-endian two's complement; a group from readings over
+// numbers as they are.
 ghost use Rattle.rules.specs.Bench.{benchBuildOf, benchTranslateOf};
-ghost use Rattle.bench.specs.Answers.{Builds, Translates};
+ghost use Rattle.rules.specs.Gauges.{lentReadings, gaugeOf, gaugeAnswer};
+ghost use Rattle.scaling.specs.Checks.{given};
+ghost use Rattle.bench.specs.Answers.{Builds, Translates, Gauges};
+use gauges::Gauged;
 use scaling::BuildAnswer;
 use scaling::TranslateAnswer;
 
+mod readings;
 mod words;
 
 use words::decode;
@@ -95,4 +100,44 @@ pub extern "C" fn glaukemis_translate(
     encode(kept, &x, terms);
     encode(translated, &y, terms * r.d as usize);
     r
+}
+
+// What a group from readings answers, since an enum does not cross to C: the number 0 with the value; or a refusal's number and place with the reading
+// that it carries.
+#[repr(C)]
+pub struct GaugeAnswer {
+    pub number: u32,
+    pub place: u32,
+    pub value: f64,
+}
+
+#[no_mangle]
+pub extern "C" fn glaukemis_gauge(
+    m: u32,
+    n: u32,
+    matrix: &[i32],
+    moduli: &[i32],
+    readings: &[f64],
+    group: u32,
+) -> GaugeAnswer
+    ensures { λ r. ⌜ Gauges (gaugeAnswer (gaugeOf (given m n (now (matrix .entry)) (now (moduli .entry))) (lentReadings (now (readings .entry))) group)) r ⌝ }
+{
+    let set = readings::gather(readings);
+    let r = gauges::gauge(m, n, matrix, moduli, set, group);
+    match r {
+        Gauged::Value(x) => GaugeAnswer {
+            number: 0,
+            place: 0,
+            value: x,
+        },
+        Gauged::Refused {
+            number,
+            place,
+            reading,
+        } => GaugeAnswer {
+            number: number,
+            place: place,
+            value: reading,
+        },
+    }
 }
