@@ -20,7 +20,7 @@ use Rattle.rules.specs.Forms.{Right}
 use Rattle.rules.specs.Steps.{start}
 use Rattle.rules.specs.Stages.{run, H, U, W}
 use Rattle.rules.specs.Calls.{Check, Verdict, taken, rangeCheck, buildVerdict, buildOf, built, problemFits, contentsH, contentsV, contentsW}
-use Rattle.theory.proofs.Grid.{table, length-grid}
+use Rattle.theory.proofs.Grid.{table, length-grid, table-filled}
 use Rattle.theory.proofs.Accepted.{AllPass}
 use Rattle.theory.proofs.Unique.{Alike, normal-unique}
 use Rattle.theory.proofs.Sizes.{room-for-H, room-for-V, room-for-W}
@@ -34,7 +34,7 @@ use Rattle.scaling.specs.Answers.{Builds, RoomToBuild}
 use Rattle.demands.proofs.Order.{DecidedBy, all-pass-append, taken-exactly}
 use Rattle.demands.proofs.Limits.{five-exactly, flag-exactly, build-room-exactly}
 use Rattle.demands.proofs.Refusals.{checksOfBuild, build-ordered}
-use Rattle.demands.proofs.Buffers.{KeepsRest, filled-keeps, table-filled, normal-same}
+use Rattle.demands.proofs.Buffers.{KeepsRest, filled-keeps, normal-same}
 
 -- ---- which problems are accepted
 -- well formed, and no step of the build writes a value beyond M (the run's flag is set exactly when one does: Table.row-7, and range-exactly below)

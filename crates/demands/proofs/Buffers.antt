@@ -1,18 +1,15 @@
 -- Lent buffers: "On success the first entries are filled without gaps, row after row, and those after them are untouched." What a filled buffer
--- holds, and that what is right for a problem may be read from buffers.
+-- keeps, and that what is right for a problem may be read from buffers.
 use mathlib.Core.Path.{_≡_, refl, sym, _∙_}
 use mathlib.Core.List.{List}
-use Prim.Native.Nat.{ℕ, _+_, _*_, _≤_, _<_}
+use Prim.Native.Nat.{ℕ, _+_, _≤_, _<_}
 use native.Mathlib.Omega.{arith}
-use lib.Arith.{digits-lt}
-use lib.ListN.{length, drop, length-append, length-drop, List·getD-append}
+use lib.ListN.{length, drop, length-append, length-drop}
 use lib.Seq.{drop-at}
-use lib.IntN.{ℤ, pos}
 use Rattle.whole.specs.Matrix.{Matrix}
 use Rattle.whole.proofs.Matrix.{mul-cong}
 use Rattle.rules.specs.Forms.{Hermite, Normal}
-use Rattle.rules.specs.Calls.{grid, filled}
-use Rattle.theory.proofs.Grid.{table, length-grid, table-grid}
+use Rattle.rules.specs.Calls.{filled}
 
 -- ---- what a call leaves of a lent buffer behind the first count entries
 pub record KeepsRest {A : Type 0} (count : ℕ) (lent after : List A) : Type 0 where
@@ -25,12 +22,6 @@ filled-keeps count contents lent e h = record {
   rest = drop-at contents (drop (length contents) lent) count e ∙ rw e;
   same-length = omega (arith, length-append contents (drop (length contents) lent), length-drop (length contents) lent);
 }
-
--- "row after row": the entries of a buffer that begins with a grid
-pub table-filled : (m n : ℕ) (A : Matrix) (lent : List ℤ) (i j : ℕ) → i < m → j < n → table n (filled (grid m n A) lent) i j ≡ A i j
-table-filled m n A lent i j a b =
-    List·getD-append (grid m n A) (drop (length (grid m n A)) lent) (pos 0) (i * n + j) (omega (arith, length-grid m n A, digits-lt a b))
-    ∙ table-grid m n A i j a b
 
 -- ---- what holds of matrices holds of others with the same entries
 hermite-same : {m n r : ℕ} {H H′ : Matrix} {row : ℕ → ℕ} → ((i j : ℕ) → i < m → j < n → H′ i j ≡ H i j) → Hermite m n r H row → Hermite m n r H′ row

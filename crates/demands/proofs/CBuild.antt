@@ -33,7 +33,7 @@ use Rattle.bench.specs.Answers.{Builds}
 use Rattle.bench.proofs.Bytes.{length-longs}
 use Rattle.demands.proofs.Order.{taken-exactly, refused-exactly, buildChecks, build-not-0}
 use Rattle.demands.proofs.Limits.{both, and-exactly, at-least, problem-fits-exactly}
-use Rattle.demands.proofs.Table.{Row, NotAt0, row-at-0, ProblemLengths}
+use Rattle.demands.proofs.Table.{Row, NotAt0, row-at, ProblemLengths}
 use Rattle.demands.proofs.Refusals.{Ordered, ordered, BuildRefused, checksOfBuild}
 use Rattle.demands.proofs.Buffers.{KeepsRest}
 use Rattle.demands.proofs.Answers.{Answered, width, all-pass-exactly, build-accepted-exactly, build-answered, range-exactly, taken-or-range}
@@ -75,7 +75,7 @@ pub record OutputsInBytes (h v w : List ℕ) : Type 0 where
 
 pub row-2-c-build : (m n : ℕ) (matrix moduli : List ℕ)
     → Row (inputsCheck (inputsOfCBuild m n matrix moduli)) 2 (InputsInBytes m n matrix moduli) (NotAt0 (InputsInBytes m n matrix moduli))
-row-2-c-build m n matrix moduli = row-at-0 2 (inputsOfCBuild m n matrix moduli) (InputsInBytes m n matrix moduli) (to, back)
+row-2-c-build m n matrix moduli = row-at 0 2 (inputsOfCBuild m n matrix moduli) (InputsInBytes m n matrix moduli) (to, back)
   where
     P : Problem
     P = problemOf m n matrix moduli
@@ -94,7 +94,7 @@ row-2-c-build m n matrix moduli = row-at-0 2 (inputsOfCBuild m n matrix moduli) 
     back I = both (both (whole-exactly matrix .1 (I .matrix-whole)) (whole-exactly moduli .1 (I .moduli-whole))) (problem-fits-exactly P .1 (I .lengths))
 
 pub row-3-c-build : (h v w : List ℕ) → Row (outputsCheck (outputsOfCBuild h v w)) 3 (OutputsInBytes h v w) (NotAt0 (OutputsInBytes h v w))
-row-3-c-build h v w = row-at-0 3 (outputsOfCBuild h v w) (OutputsInBytes h v w) (to, back)
+row-3-c-build h v w = row-at 0 3 (outputsOfCBuild h v w) (OutputsInBytes h v w) (to, back)
   where
     to : outputsOfCBuild h v w ≡ true → OutputsInBytes h v w
     to e =

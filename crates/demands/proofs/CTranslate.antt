@@ -34,7 +34,7 @@ use Rattle.bench.specs.Answers.{Builds, Translates}
 use Rattle.bench.proofs.Bytes.{length-longs}
 use Rattle.demands.proofs.Order.{taken-exactly, refused-exactly, TermDecides, translateChecks, translate-not-0}
 use Rattle.demands.proofs.Limits.{both}
-use Rattle.demands.proofs.Table.{Row, NotAt0, row-at-0, FormulaLengths, formula-lengths-exactly}
+use Rattle.demands.proofs.Table.{Row, NotAt0, row-at, FormulaLengths, formula-lengths-exactly}
 use Rattle.demands.proofs.Refusals.{Ordered, ordered, TranslateRefused, checksOfTranslate}
 use Rattle.demands.proofs.Buffers.{KeepsRest}
 use Rattle.demands.proofs.Formulas.{Translatable, Asked, all-pass-exactly, FormulaTranslated, translated-exactly, else-term-refused, formula-translated, backIn, first-formula-returns, no-other-exponents}
@@ -70,7 +70,7 @@ pub record OutputsInBytes (kept out : List ℕ) : Type 0 where
 pub row-2-c-translate : (m n : ℕ) (matrix moduli cs es : List ℕ) → Row (inputsCheck (inputsOfCTranslate m n matrix moduli cs es)) 2
     (InputsInBytes m n matrix moduli cs es) (NotAt0 (InputsInBytes m n matrix moduli cs es))
 row-2-c-translate m n matrix moduli cs es =
-    row-at-0 2 (inputsOfCTranslate m n matrix moduli cs es) (InputsInBytes m n matrix moduli cs es) (to, back)
+    row-at 0 2 (inputsOfCTranslate m n matrix moduli cs es) (InputsInBytes m n matrix moduli cs es) (to, back)
   where
     P : Problem
     P = problemOf m n matrix moduli
@@ -108,7 +108,7 @@ row-2-c-translate m n matrix moduli cs es =
 
 pub row-3-c-translate : (kept out : List ℕ)
     → Row (outputsCheck (outputsOfCTranslate kept out)) 3 (OutputsInBytes kept out) (NotAt0 (OutputsInBytes kept out))
-row-3-c-translate kept out = row-at-0 3 (outputsOfCTranslate kept out) (OutputsInBytes kept out) (
+row-3-c-translate kept out = row-at 0 3 (outputsOfCTranslate kept out) (OutputsInBytes kept out) (
   λ e. let a = and-both (hasRoom 64 kept) (hasRoom 1024 out) e in
       record { kept-room = room-exactly 64 kept .0 (a .0); out-room = room-exactly 1024 out .0 (a .1) },
   λ O. both (room-exactly 64 kept .1 (O .kept-room)) (room-exactly 1024 out .1 (O .out-room)),

@@ -25,7 +25,7 @@ use Rattle.rules.specs.Problem.{Problem, WellFormed, s, N}
 use Rattle.rules.specs.Stages.{run, H, U, W}
 use Rattle.rules.specs.Formulas.{Free, Formula, terms, term, WellFormedFormula, d, translated, group}
 use Rattle.rules.specs.Calls.{Check, Verdict, taken, exponentsCheck, rangeCheck, termsCheck, translateVerdict, translateOf, translatedTo, translatedExponents, problemFits, formulaFits, buildOf}
-use Rattle.theory.proofs.Grid.{table, length-grid}
+use Rattle.theory.proofs.Grid.{table, length-grid, table-filled}
 use Rattle.theory.proofs.Accepted.{AllPass, exponents-small}
 use Rattle.theory.proofs.Sizes.{room-for-exponents}
 use Rattle.theory.proofs.Unique.{Alike}
@@ -39,7 +39,7 @@ use Rattle.demands.proofs.Order.{all-pass-append, taken-exactly, TermDe
 use Rattle.demands.proofs.Limits.{and-exactly, five-exactly, formula-fits-exactly, flag-exactly, translate-room-exactly}
 use Rattle.demands.proofs.Table.{row-6}
 use Rattle.demands.proofs.Refusals.{Ordered, TranslateRefused, checksOfTranslate, translate-ordered}
-use Rattle.demands.proofs.Buffers.{KeepsRest, filled-keeps, table-filled}
+use Rattle.demands.proofs.Buffers.{KeepsRest, filled-keeps}
 use Rattle.demands.proofs.Answers.{Accepted, width, build-answered}
 
 -- ---- "every accepted problem and every formula of at most 64 terms with exponents from -10,000 to 10,000, lent room enough"
@@ -176,10 +176,10 @@ module _ (P : Problem) (h v w : List ℤ) (r : BuildAnswer) (h₁ v₁ w₁ : Li
   moduli-are : r .moduli ≡ s P
   moduli-are = build-answered P h v w r h₁ v₁ w₁ builds built .moduli
 
-  groups-are : width P r - r .rank ≡ d P (run P)
+  pub groups-are : width P r - r .rank ≡ d P (run P)
   groups-are = omega (arith, moduli-are, ends-alike .ranks)
 
-  group-is : (g j : ℕ) → g < width P r - r .rank → j < P .n → groupIn P r v₁ g j ≡ group P (run P) g j
+  pub group-is : (g j : ℕ) → g < width P r - r .rank → j < P .n → groupIn P r v₁ g j ≡ group P (run P) g j
   unfolding group
   group-is g j b c =
       sym (ends-alike .multipliers (r .moduli + j) (r .rank + g) (omega arith) (omega arith))

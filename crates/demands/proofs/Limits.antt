@@ -12,7 +12,7 @@ use lib.Signed.{_≤ℤ_, leZ}
 use borrow.Author.Tests.{leb-true, le-leb, eqb-true, eq-eqb, not-true}
 use Rattle.whole.specs.Lists.{nth}
 use Rattle.whole.proofs.Order.{zarith, parts, P-neg, N-neg}
-use Rattle.rules.specs.Limits.{within, sizesInRange, modulusInRange, entryInRange, exponentInRange, mostTerms, roomH, roomV, roomW, roomCoefficients, roomExponents}
+use Rattle.rules.specs.Limits.{within, sizesInRange, modulusInRange, entryInRange, exponentInRange, powerInRange, mostTerms, roomH, roomV, roomW, roomCoefficients, roomExponents}
 use Rattle.rules.specs.Search.{none}
 use Rattle.rules.specs.Problem.{Problem, WellFormed}
 use Rattle.rules.specs.Stages.{Run}
@@ -96,6 +96,10 @@ entry-exactly z = either-way 1000 z
 
 pub exponent-exactly : (z : ℤ) → (exponentInRange z ≡ true) ↔ (natAbs z ≤ 10_000)
 exponent-exactly z = either-way 10_000 z
+
+-- order 2, 12: from -64 to 64
+pub power-exactly : (z : ℤ) → (powerInRange z ≡ true) ↔ (natAbs z ≤ 64)
+power-exactly z = either-way 64 z
 
 pub modulus-exactly : (z : ℤ) → (modulusInRange z ≡ true) ↔ ((pos 0 ≤ℤ z) × (natAbs z ≤ 1000))
 modulus-exactly z = (

@@ -17,7 +17,7 @@ use Rattle.rules.specs.Search.{none, found}
 use Rattle.rules.specs.Problem.{Problem}
 use Rattle.rules.specs.Stages.{run}
 use Rattle.rules.specs.Formulas.{Formula, terms}
-use Rattle.rules.specs.Calls.{Check, unless, firstOut, problemFits, formulaFits}
+use Rattle.rules.specs.Calls.{Check, unless, unlessAt, firstOut, problemFits, formulaFits}
 use Rattle.rules.specs.Calls.{sizesCheck, inputsCheck, outputsCheck, moduliCheck, entriesCheck, exponentsCheck, rangeCheck}
 use Rattle.whole.proofs.Tests.{and-both}
 use Rattle.theory.proofs.Run.{run-steps}
@@ -26,7 +26,7 @@ use Rattle.theory.proofs.Flag.{SomeBeyond, run-over}
 use Rattle.scaling.specs.Answers.{RoomToBuild, RoomToTranslate}
 use Rattle.theory.proofs.Accepted.{Sizes}
 use Rattle.demands.proofs.Order.{first-out-exactly, none-out-exactly}
-use Rattle.demands.proofs.Limits.{both, and-exactly, unless-exactly, at-least, sizes-exactly, problem-fits-exactly, formula-fits-exactly, modulus-exactly, entry-exactly, exponent-exactly, flag-exactly}
+use Rattle.demands.proofs.Limits.{both, and-exactly, at-least, sizes-exactly, problem-fits-exactly, formula-fits-exactly, modulus-exactly, entry-exactly, exponent-exactly, flag-exactly}
 use Rattle.demands.proofs.Limits.{build-room-exactly, translate-room-exactly}
 
 -- a row of the table: no fault exactly when all is good, a fault at a place exactly when what is told of that place holds
@@ -35,24 +35,32 @@ pub record Row (check : Check) (number : ℕ) (Good : Type 0) (FaultAt : ℕ →
   pub passes-exactly : (check .fault ≡ none) ↔ Good
   pub given-exactly : (place : ℕ) → (check .fault ≡ found place) ↔ FaultAt place
 
+-- a check that can find its fault at one place alone
+abbrev pub NotAt : (at : ℕ) → Type 0 → ℕ → Type 0
+NotAt at Good place = (¬ Good) × (place ≡ at)
+
+pub row-at : (at number : ℕ) (test : Bool) (Good : Type 0) → (test ≡ true) ↔ Good
+    → Row (record { number = number; fault = unlessAt at test }) number Good (NotAt at Good)
+row-at at number test Good = go test
+  where
+    go : (b : Bool) → (b ≡ true) ↔ Good → Row (record { number = number; fault = unlessAt at b }) number Good (NotAt at Good)
+    go true e = record {
+      its-number = refl;
+      passes-exactly = (λ _. e .0 refl, λ _. refl);
+      given-exactly = λ place. (λ f. let z : _≡_ {A = ℕ} 0 1 = cc in absurd (omega arith), λ x. absurd (x .0 (e .0 refl)));
+    }
+    go false e = record {
+      its-number = refl;
+      passes-exactly = (λ f. let z : _≡_ {A = ℕ} 0 1 = cc in absurd (omega arith), λ g. absurd (false≢true (e .1 g)));
+      given-exactly = λ place. (
+        λ f. let p : place ≡ at = cc in (λ g. false≢true (e .1 g), p),
+        λ x. ap found (sym (x .1)),
+      );
+    }
+
 -- place 0
 abbrev pub NotAt0 : Type 0 → ℕ → Type 0
-NotAt0 Good place = (¬ Good) × (place ≡ 0)
-
-pub row-at-0 : (number : ℕ) (test : Bool) (Good : Type 0) → (test ≡ true) ↔ Good → Row (record { number = number; fault = unless test }) number Good (NotAt0 Good)
-row-at-0 number test Good e = record {
-  its-number = refl;
-  passes-exactly = (λ f. e .0 (unless-exactly test .0 f), λ g. unless-exactly test .1 (e .1 g));
-  given-exactly = λ place. (λ f. to test e f, λ x. back test e x);
-}
-  where
-    to : {place : ℕ} (b : Bool) → (b ≡ true) ↔ Good → unless b ≡ found place → NotAt0 Good place
-    to true e f = let z : _≡_ {A = ℕ} 0 1 = cc in absurd (omega arith)
-    to {place} false e f = let p : place ≡ 0 = cc in (λ g. false≢true (e .1 g), p)
-
-    back : {place : ℕ} (b : Bool) → (b ≡ true) ↔ Good → NotAt0 Good place → unless b ≡ found place
-    back true e x = absurd (x .0 (e .0 refl))
-    back false e x = ap found (sym (x .1))
+NotAt0 = NotAt 0
 
 -- the first of a list that is out of its limits
 abbrev pub AllGood : (ℤ → Type 0) → List ℤ → Type 0
@@ -93,7 +101,7 @@ row-first number test Good e xs = record {
 
 -- ---- 1: "m or n is out of range"
 pub row-1 : (P : Problem) → Row (sizesCheck P) 1 (Sizes (P .m) (P .n)) (NotAt0 (Sizes (P .m) (P .n)))
-row-1 P = row-at-0 1 (sizesInRange (P .m) (P .n)) (Sizes (P .m) (P .n)) (sizes-exactly (P .m) (P .n))
+row-1 P = row-at 0 1 (sizesInRange (P .m) (P .n)) (Sizes (P .m) (P .n)) (sizes-exactly (P .m) (P .n))
 
 -- ---- 2: "a lent input has the wrong length (matrix m·n, moduli m, coefficients one and exponents n per term; more than 64 terms)"
 abbrev pub ProblemLengths : Problem → Type 0
@@ -103,7 +111,7 @@ abbrev pub FormulaLengths : Problem → Formula → Type 0
 FormulaLengths P f = ProblemLengths P × (length (f .exponents) ≡ terms f * P .n) × (terms f ≤ 64)
 
 pub row-2-build : (P : Problem) → Row (inputsCheck (problemFits P)) 2 (ProblemLengths P) (NotAt0 (ProblemLengths P))
-row-2-build P = row-at-0 2 (problemFits P) (ProblemLengths P) (problem-fits-exactly P)
+row-2-build P = row-at 0 2 (problemFits P) (ProblemLengths P) (problem-fits-exactly P)
 
 abbrev pub MonomialLengths : Problem → List ℤ → Type 0
 MonomialLengths P es = ProblemLengths P × (length es ≡ P .n)
@@ -111,7 +119,7 @@ MonomialLengths P es = ProblemLengths P × (length es ≡ P .n)
 pub row-2-weigh : (P : Problem) (es : List ℤ)
     → Row (inputsCheck (problemFits P && eqb (length es) (P .n))) 2 (MonomialLengths P es) (NotAt0 (MonomialLengths P es))
 row-2-weigh P es =
-    row-at-0 2 (problemFits P && eqb (length es) (P .n)) (MonomialLengths P es)
+    row-at 0 2 (problemFits P && eqb (length es) (P .n)) (MonomialLengths P es)
     (and-exactly (problemFits P) (eqb (length es) (P .n)) (problem-fits-exactly P) (eqb-true (length es) (P .n), eq-eqb (length es) (P .n)))
 
 pub formula-lengths-exactly : (P : Problem) (f : Formula) → (problemFits P && formulaFits P f ≡ true) ↔ FormulaLengths P f
@@ -123,21 +131,21 @@ formula-lengths-exactly P f = (
 
 pub row-2-translate : (P : Problem) (f : Formula)
     → Row (inputsCheck (problemFits P && formulaFits P f)) 2 (FormulaLengths P f) (NotAt0 (FormulaLengths P f))
-row-2-translate P f = row-at-0 2 (problemFits P && formulaFits P f) (FormulaLengths P f) (formula-lengths-exactly P f)
+row-2-translate P f = row-at 0 2 (problemFits P && formulaFits P f) (FormulaLengths P f) (formula-lengths-exactly P f)
 
 -- ---- 3: "a lent output is shorter than its size below"
 pub row-3-build : (h v w : List ℤ)
     → Row (outputsCheck (leb roomH (length h) && leb roomV (length v) && leb roomW (length w))) 3 (RoomToBuild h v w) (NotAt0 (RoomToBuild h v w))
-row-3-build h v w = row-at-0 3 (leb roomH (length h) && leb roomV (length v) && leb roomW (length w)) (RoomToBuild h v w) (build-room-exactly h v w)
+row-3-build h v w = row-at 0 3 (leb roomH (length h) && leb roomV (length v) && leb roomW (length w)) (RoomToBuild h v w) (build-room-exactly h v w)
 
 pub row-3-weigh : (weights : List ℤ) → Row (outputsCheck (leb roomWeights (length weights))) 3 (8 ≤ length weights) (NotAt0 (8 ≤ length weights))
-row-3-weigh weights = row-at-0 3 (leb roomWeights (length weights)) (8 ≤ length weights) (at-least 8 (length weights))
+row-3-weigh weights = row-at 0 3 (leb roomWeights (length weights)) (8 ≤ length weights) (at-least 8 (length weights))
 
 pub row-3-translate : (kept out : List ℤ)
     → Row (outputsCheck (leb roomCoefficients (length kept) && leb roomExponents (length out))) 3 (RoomToTranslate kept out)
     (NotAt0 (RoomToTranslate kept out))
 row-3-translate kept out =
-    row-at-0 3 (leb roomCoefficients (length kept) && leb roomExponents (length out)) (RoomToTranslate kept out) (translate-room-exactly kept out)
+    row-at 0 3 (leb roomCoefficients (length kept) && leb roomExponents (length out)) (RoomToTranslate kept out) (translate-room-exactly kept out)
 
 -- ---- 4, 5 and 6: "a modulus is out of range", "a matrix entry is out of range", "a formula exponent is out of range"; the place is the first such
 abbrev pub GoodModulus : ℤ → Type 0
