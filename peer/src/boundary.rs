@@ -1,6 +1,8 @@
 //! Problems whose runs come to exactly M (and are accepted) and to M + 1 (and
 //! are refused 7 for that value alone).
 
+pub mod gauges;
+
 use crate::model::steps::{run, Of, Stage, Until};
 use crate::model::{Problem, M};
 

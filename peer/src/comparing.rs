@@ -1,6 +1,8 @@
 //! Compares a library with the model on one input, and each accepted answer with
 //! the definitions through `verify`.
 
+pub mod gauges;
+
 use crate::library::Library;
 use crate::model::calls::{
     build_bytes, from_bytes, translate_bytes, H_SIZE, KEPT_SIZE, TRANSLATED_SIZE, V_SIZE, W_SIZE,

@@ -1,6 +1,8 @@
 //! Inputs for the comparisons: random problems and formulas, random faults, and
 //! every refusal with every place.
 
+pub mod gauges;
+
 use crate::boundary;
 use crate::comparing::Call;
 use crate::model::calls::{build_numbers, to_bytes, Built};

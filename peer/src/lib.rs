@@ -1,8 +1,9 @@
-//! An independent second program for document 01 ("Exact rules for the build").
+//! An independent second program for document 01 ("Exact rules for the build")
+//! and for order 2 of document 02 ("Groups from the gauges").
 //!
-//! It was written from document 01 alone and shares no code with the program
-//! that it is compared with. `model` says what document 01 says, `verify`
-//! checks an answer without the steps, and the rest makes inputs and compares.
+//! It was written from these documents alone and shares no code with the program
+//! that it is compared with. `model` says what they say, `verify` checks an
+//! answer without the steps, and the rest makes inputs and compares.
 
 pub mod boundary;
 pub mod comparing;
@@ -11,4 +12,5 @@ pub mod library;
 pub mod model;
 pub mod problems;
 pub mod random;
+pub mod rounding;
 pub mod verify;

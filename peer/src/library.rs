@@ -1,12 +1,17 @@
 //! What is compared with the model: the C library, or something in its place.
 
+mod gauges;
+
+use crate::comparing::gauges::GaugeCall;
 use crate::model::calls::{
     build_bytes, flat, to_bytes, translate_bytes, BuildAnswer, TranslateAnswer,
 };
+use crate::model::gauges::{gauge, GaugeAnswer};
 use crate::model::steps::{run, Of, Until};
 use crate::model::{calls, Problem, M};
+pub use gauges::{Wrong, WRONGS};
 
-/// The two calls of the C library on byte slices.
+/// The calls of the C library: two on byte slices, one on numbers.
 pub trait Library {
     #[allow(clippy::too_many_arguments)]
     fn build(
@@ -32,6 +37,16 @@ pub trait Library {
         kept: &mut [u8],
         translated: &mut [u8],
     ) -> TranslateAnswer;
+
+    fn gauge(
+        &mut self,
+        m: u32,
+        n: u32,
+        matrix: &[i32],
+        moduli: &[i32],
+        readings: &[f64],
+        group: u32,
+    ) -> GaugeAnswer;
 }
 
 /// The C library ../target/staticlib/libbench.a.
@@ -40,7 +55,7 @@ pub struct CLibrary;
 
 #[cfg(feature = "bench")]
 mod c {
-    use super::{BuildAnswer, TranslateAnswer};
+    use super::{BuildAnswer, GaugeAnswer, TranslateAnswer};
 
     #[link(name = "bench", kind = "static")]
     extern "C" {
@@ -75,6 +90,18 @@ mod c {
             translated: *mut u8,
             translated_len: usize,
         ) -> TranslateAnswer;
+
+        pub fn glaukemis_gauge(
+            m: u32,
+            n: u32,
+            matrix: *const i32,
+            matrix_count: usize,
+            moduli: *const i32,
+            moduli_count: usize,
+            readings: *const f64,
+            readings_count: usize,
+            group: u32,
+        ) -> GaugeAnswer;
     }
 }
 
@@ -141,6 +168,32 @@ impl Library for CLibrary {
             )
         }
     }
+
+    fn gauge(
+        &mut self,
+        m: u32,
+        n: u32,
+        matrix: &[i32],
+        moduli: &[i32],
+        readings: &[f64],
+        group: u32,
+    ) -> GaugeAnswer {
+        // Sound: each pointer and count come from one slice, and nothing is
+        // written.
+        unsafe {
+            c::glaukemis_gauge(
+                m,
+                n,
+                matrix.as_ptr(),
+                matrix.len(),
+                moduli.as_ptr(),
+                moduli.len(),
+                readings.as_ptr(),
+                readings.len(),
+                group,
+            )
+        }
+    }
 }
 
 /// The model itself in the library's place.
@@ -182,6 +235,18 @@ impl Library for Model {
             translated,
         )
     }
+
+    fn gauge(
+        &mut self,
+        m: u32,
+        n: u32,
+        matrix: &[i32],
+        moduli: &[i32],
+        readings: &[f64],
+        group: u32,
+    ) -> GaugeAnswer {
+        gauge(m, n, matrix, moduli, readings, group)
+    }
 }
 
 /// The ways in which `Damaged` is wrong.
@@ -220,9 +285,27 @@ pub enum Damage {
     WithoutT,
     WithoutV,
     WithoutW,
+    /// A wrong answer of gauge.
+    Gauge(Wrong),
 }
 
-pub const DAMAGES: [Damage; 20] = [
+/// Every way.
+pub fn damages() -> Vec<Damage> {
+    DAMAGES
+        .into_iter()
+        .chain(WRONGS.map(Damage::Gauge))
+        .collect()
+}
+
+impl Damage {
+    /// The word for it; `GaugeBit` for `Gauge(Bit)`.
+    pub fn name(self) -> String {
+        format!("{self:?}").replace(['(', ')'], "")
+    }
+}
+
+/// The ways to damage a build or a translation.
+const DAMAGES: [Damage; 20] = [
     Damage::Number,
     Damage::Place,
     Damage::FieldOnRefusal,
@@ -245,9 +328,9 @@ pub const DAMAGES: [Damage; 20] = [
     Damage::WithoutW,
 ];
 
-/// The model with one answer damaged (with the last five damages, which judge a
-/// run otherwise, every answer that they touch), to see that a comparison can
-/// fail.
+/// The model with one answer damaged (with the damages that judge a run otherwise,
+/// from `LeastPasses` to `WithoutW`, every answer that they touch), to see that a
+/// comparison can fail.
 pub struct Damaged {
     damage: Damage,
     /// How many answers that can be damaged come before the one that is.
@@ -269,7 +352,7 @@ impl Damaged {
         now
     }
 
-    /// A problem's build as the last five damages would have it.
+    /// A problem's build as the damages that judge a run would have it.
     fn of_run(&self, problem: &Problem, h: &mut [u8], v: &mut [u8], w: &mut [u8]) -> BuildAnswer {
         let run = run(problem, Until::TheEnd);
         let extremes = run.work.extremes;
@@ -419,6 +502,35 @@ impl Library for Damaged {
             translated[written] ^= 1;
         }
         answer
+    }
+
+    fn gauge(
+        &mut self,
+        m: u32,
+        n: u32,
+        matrix: &[i32],
+        moduli: &[i32],
+        readings: &[f64],
+        group: u32,
+    ) -> GaugeAnswer {
+        let right = gauge(m, n, matrix, moduli, readings, group);
+        let Damage::Gauge(wrong) = self.damage else {
+            return right;
+        };
+        let call = GaugeCall {
+            m,
+            n,
+            matrix: matrix.to_vec(),
+            moduli: moduli.to_vec(),
+            readings: readings.to_vec(),
+            group,
+        };
+        let answer = wrong.answer(&call, right);
+        if self.now(self.damage, answer != right) {
+            answer
+        } else {
+            right
+        }
     }
 }
 

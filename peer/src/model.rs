@@ -1,9 +1,10 @@
 //! Document 01 in plain Rust with wide whole numbers: the problem and its
 //! matrix C, weights and translation. The modules below hold the written steps
-//! (`steps`), the calls with their checks (`calls`) and the program's lines
-//! (`lines`).
+//! (`steps`), the calls with their checks (`calls`), the program's lines
+//! (`lines`) and document 02's groups from the gauges (`gauges`).
 
 pub mod calls;
+pub mod gauges;
 pub mod lines;
 pub mod steps;
 

@@ -2,6 +2,8 @@
 //! steps: whatever made H, V and W, they are right exactly when these checks
 //! pass (only the count of steps is not a matter of the definitions).
 
+pub mod gauges;
+
 use crate::model::{Matrix, Problem, M};
 
 /// An answer of a build as it was given out, row after row.

@@ -3,6 +3,9 @@
 //! refusal at every place. Each problem goes through the build and the
 //! translation, and each accepted answer through `verify`.
 //!
+//! As many random calls of `gauge` follow, but not fewer than 2,000, after fixed
+//! ones; each number that it answers has to come up among the random ones.
+//!
 //! `compare COUNT SEED trace` prints each input before it is tried, for a library
 //! that breaks off.
 //!
@@ -44,18 +47,19 @@ fn library(_damage: Option<&str>) -> Box<dyn peer::library::Library> {
 
 #[cfg(feature = "selftest")]
 fn library(damage: Option<&str>) -> Box<dyn peer::library::Library> {
-    use peer::library::{Damaged, Model, DAMAGES};
+    use peer::library::{damages, Damaged, Model};
     let Some(name) = damage else {
         println!("library: the model itself (selftest)");
         return Box::new(Model);
     };
-    match DAMAGES.iter().find(|damage| format!("{damage:?}") == name) {
-        Some(&damage) => {
-            println!("library: the model with a damaged answer ({damage:?})");
-            Box::new(Damaged::new(damage, 100))
+    match damages().into_iter().find(|damage| damage.name() == name) {
+        Some(damage) => {
+            println!("library: the model with a damaged answer ({name})");
+            Box::new(Damaged::new(damage, 10))
         }
         None => {
-            eprintln!("ways to damage an answer: {DAMAGES:?}");
+            let names: Vec<String> = damages().into_iter().map(|damage| damage.name()).collect();
+            eprintln!("ways to damage an answer: {}", names.join(", "));
             std::process::exit(2)
         }
     }
@@ -63,15 +67,21 @@ fn library(damage: Option<&str>) -> Box<dyn peer::library::Library> {
 
 #[cfg(any(feature = "bench", feature = "selftest"))]
 mod run {
+    use peer::boundary;
+    use peer::comparing::gauges::{GaugeCall, GaugeTally};
     use peer::comparing::{Call, Tally};
     use peer::generate;
     use peer::library::Library;
     use peer::random::Random;
+    use peer::verify::gauges::Due;
 
     /// Mismatches that are printed in full.
     const PRINTED: u64 = 5;
 
-    fn print_kinds(name: &str, kinds: &[u64; 11]) {
+    /// So many random calls of `gauge` come to every number that it answers.
+    const LEAST_GAUGES: u64 = 2_000;
+
+    fn print_kinds(name: &str, kinds: &[u64]) {
         println!("{name}: accepted {}", kinds[0]);
         for (number, &count) in kinds.iter().enumerate().skip(1) {
             if count > 0 {
@@ -108,7 +118,52 @@ mod run {
         println!("random problems: {count}");
         print_kinds("build", &tally.build);
         print_kinds("translate", &tally.translate);
-        println!("{} passed, {} failed", tally.passed, tally.failed);
-        tally.failed == 0
+        let gauges = run_gauges(library, count, seed, trace);
+        let (passed, failed) = (tally.passed + gauges.passed, tally.failed + gauges.failed);
+        println!("{passed} passed, {failed} failed");
+        failed == 0
+    }
+
+    /// The comparison of `gauge`; a number that no random call came to has failed.
+    fn run_gauges(library: &mut dyn Library, count: u64, seed: u64, trace: bool) -> GaugeTally {
+        // Generators of its own: the inputs of the other calls stay as they are.
+        let mut random = Random::new(seed ^ (1 << 63));
+        let mut patterns = Random::new(!seed ^ (1 << 63));
+        let mut one = |tally: &mut GaugeTally, call: &GaugeCall, written: Option<Due>| {
+            if trace {
+                println!("{}", call.describe());
+            }
+            let result = tally.compare(library, call, written, &mut patterns);
+            if let Err(error) = result {
+                if tally.failed <= PRINTED {
+                    println!("MISMATCH: {error}\n{}", call.describe());
+                }
+            }
+        };
+        let mut fixed = GaugeTally::default();
+        for case in boundary::gauges::cases() {
+            one(&mut fixed, &case.call, Some(case.due));
+        }
+        println!("gauge, written answers: {}", fixed.passed + fixed.failed);
+        let systematic = generate::gauges::systematic::calls(&mut random);
+        for call in &systematic {
+            one(&mut fixed, call, None);
+        }
+        println!("gauge, systematic calls: {}", systematic.len());
+        let mut tally = GaugeTally::default();
+        let count = count.max(LEAST_GAUGES);
+        for _ in 0..count {
+            let call = generate::gauges::call(&mut random);
+            one(&mut tally, &call, None);
+        }
+        println!("gauge, random calls: {count}");
+        print_kinds("gauge", &tally.numbers);
+        for number in tally.never() {
+            println!("NEVER: no random call of gauge was answered {number}");
+            tally.failed += 1;
+        }
+        tally.passed += fixed.passed;
+        tally.failed += fixed.failed;
+        tally
     }
 }

@@ -84,7 +84,7 @@ fn byte_count(bytes: &[u8]) -> Count {
 
 /// 2: a lent input has the wrong length. Each input has its count and the right
 /// one.
-fn check_inputs(inputs: &[(Count, usize)]) -> Result<(), Refusal> {
+pub(super) fn check_inputs(inputs: &[(Count, usize)]) -> Result<(), Refusal> {
     if inputs.iter().all(|&(count, right)| count == Some(right)) {
         Ok(())
     } else {

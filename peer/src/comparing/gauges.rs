@@ -1,0 +1,256 @@
+//! Compares a library with the model on one call of `gauge`, bit for bit, and
+//! each answer from 11 on with the definitions through `verify`.
+
+use super::{compare_build, same, Call};
+use crate::library::Library;
+use crate::model::gauges::gauge;
+use crate::model::lines::Input;
+use crate::model::Problem;
+use crate::random::Random;
+use crate::verify::gauges::{due, Due};
+use std::hint::black_box;
+
+/// One input of the call; the lengths are those of the lists.
+#[derive(Clone, Debug)]
+pub struct GaugeCall {
+    pub m: u32,
+    pub n: u32,
+    pub matrix: Vec<i32>,
+    pub moduli: Vec<i32>,
+    pub readings: Vec<f64>,
+    pub group: u32,
+}
+
+impl GaugeCall {
+    /// A call with right sizes and lengths of matrix and moduli.
+    pub fn new(problem: &Problem, readings: &[f64], group: u32) -> GaugeCall {
+        GaugeCall {
+            m: problem.m as u32,
+            n: problem.n as u32,
+            matrix: problem.matrix.clone(),
+            moduli: problem.moduli.clone(),
+            readings: readings.to_vec(),
+            group,
+        }
+    }
+
+    /// All of the input; each reading as its bits.
+    pub fn describe(&self) -> String {
+        let readings: Vec<String> = self
+            .readings
+            .iter()
+            .map(|x| format!("{:016x} ({x:e})", x.to_bits()))
+            .collect();
+        format!(
+            "gauge: m {} n {} group {}\nmatrix ({}) {:?}\nmoduli ({}) {:?}\nreadings ({}) {}\n",
+            self.m,
+            self.n,
+            self.group,
+            self.matrix.len(),
+            self.matrix,
+            self.moduli.len(),
+            self.moduli,
+            readings.len(),
+            readings.join(", "),
+        )
+    }
+
+    /// The problem of a call that came through the checks of sizes and lengths.
+    fn problem(&self) -> Problem {
+        let (m, n) = (self.m as usize, self.n as usize);
+        Problem::new(m, n, self.matrix.clone(), self.moduli.clone())
+    }
+}
+
+/// Numbers before (up to 3 more) and behind a lent list.
+const GUARD: usize = 20;
+
+/// A lent list between numbers that must stay as they are. They are such as would
+/// be refused, so that a library that reads one of them shows it.
+struct Between<T> {
+    all: Vec<T>,
+    around: T,
+    start: usize,
+    length: usize,
+}
+
+impl<T: Copy> Between<T> {
+    /// It begins at any address that is a multiple of the size of a T.
+    fn new(content: &[T], around: T, random: &mut Random) -> Between<T> {
+        let start = GUARD + random.below(4);
+        let mut all = vec![around; start];
+        all.extend_from_slice(content);
+        all.extend([around; GUARD]);
+        Between {
+            all,
+            around,
+            start,
+            length: content.len(),
+        }
+    }
+
+    fn lend(&self) -> &[T] {
+        &self.all[self.start..self.start + self.length]
+    }
+
+    /// All is what it was, as `bits` tells. The call had a shared slice only, by
+    /// which the compiler might take that for granted; black_box forbids it.
+    fn unchanged<B: PartialEq>(&self, content: &[T], bits: impl Fn(T) -> B) -> Result<(), String> {
+        let now = black_box(&self.all);
+        let front = std::iter::repeat_n(&self.around, self.start);
+        let behind = std::iter::repeat_n(&self.around, GUARD);
+        let before = front.chain(content).chain(behind);
+        if now.iter().map(|&x| bits(x)).eq(before.map(|&x| bits(x))) {
+            Ok(())
+        } else {
+            Err("an input lent to gauge was changed".to_string())
+        }
+    }
+}
+
+/// What is around the lists: no entry, no modulus, and no reading.
+const NO_ENTRY: i32 = i32::MIN;
+const NO_MODULUS: i32 = -1;
+const NO_READING: f64 = f64::from_bits(0x7ff4_0000_0000_dead);
+
+/// The answer is what it has to be.
+fn held(why: &str, given: Due, due: Due) -> Result<(), String> {
+    if given == due {
+        Ok(())
+    } else {
+        Err(format!("gauge: library {given:x?}, {why} {due:x?}"))
+    }
+}
+
+/// Calls the library and the model on the same input and compares them; gives
+/// the answer. `written` is what the answer has to be, where that is known.
+fn compare(
+    library: &mut dyn Library,
+    call: &GaugeCall,
+    written: Option<Due>,
+    random: &mut Random,
+) -> Result<Due, String> {
+    let matrix = Between::new(&call.matrix, NO_ENTRY, random);
+    let moduli = Between::new(&call.moduli, NO_MODULUS, random);
+    let readings = Between::new(&call.readings, NO_READING, random);
+    let answer = library.gauge(
+        call.m,
+        call.n,
+        matrix.lend(),
+        moduli.lend(),
+        readings.lend(),
+        call.group,
+    );
+    matrix.unchanged(&call.matrix, |x| x)?;
+    moduli.unchanged(&call.moduli, |x| x)?;
+    readings.unchanged(&call.readings, f64::to_bits)?;
+    let right = gauge(
+        call.m,
+        call.n,
+        &call.matrix,
+        &call.moduli,
+        &call.readings,
+        call.group,
+    );
+    same("gauge", answer, right)?;
+    // What follows does not use the model.
+    let given = (answer.number, answer.place, answer.value.to_bits());
+    if let Some(written) = written {
+        held("as written", given, written)?;
+    }
+    if !(1..=7).contains(&answer.number) {
+        // With the V of the library's own build.
+        let problem = call.problem();
+        let whole = Call::new(&Input {
+            problem: problem.clone(),
+            coefficients: Vec::new(),
+            exponents: Vec::new(),
+        });
+        let (_, built) = compare_build(library, &whole, random)?;
+        let (rank, v) = built.ok_or("a group was asked for, but the build is refused")?;
+        let due = due(&problem, rank, &v, &call.readings, call.group)?;
+        held("by the definitions", given, due)?;
+    }
+    Ok(given)
+}
+
+/// The numbers that the call answers; 0 is a value.
+pub const NUMBERS: [u32; 10] = [0, 1, 2, 4, 5, 7, 11, 24, 12, 13];
+
+/// How many answers of each number there were.
+#[derive(Clone, Debug, Default)]
+pub struct GaugeTally {
+    pub numbers: [u64; 25],
+    pub passed: u64,
+    pub failed: u64,
+}
+
+impl GaugeTally {
+    /// Compares one input and counts it; gives what is wrong.
+    pub fn compare(
+        &mut self,
+        library: &mut dyn Library,
+        call: &GaugeCall,
+        written: Option<Due>,
+        random: &mut Random,
+    ) -> Result<(), String> {
+        match compare(library, call, written, random) {
+            Ok((number, ..)) => {
+                self.numbers[number as usize] += 1;
+                self.passed += 1;
+                Ok(())
+            }
+            Err(error) => {
+                self.failed += 1;
+                Err(error)
+            }
+        }
+    }
+
+    /// The numbers that no answer had: without them a comparison says nothing of
+    /// those answers.
+    pub fn never(&self) -> Vec<u32> {
+        let never = |number: &u32| self.numbers[*number as usize] == 0;
+        NUMBERS.into_iter().filter(never).collect()
+    }
+}
+
+#[cfg(test)]
+mod tests {
+    use super::*;
+
+    /// A change of the list or around it is seen, also one that keeps the value.
+    #[test]
+    fn changes_are_seen() {
+        let mut random = Random::new(1);
+        let content = [0.0, 1.0, f64::NAN];
+        let lent = Between::new(&content, NO_READING, &mut random);
+        assert_eq!(lent.lend().len(), 3);
+        let unchanged = |lent: &Between<f64>| lent.unchanged(&content, f64::to_bits);
+        unchanged(&lent).expect("nothing was done");
+        for place in 0..lent.all.len() {
+            for bit in [0, 51, 63] {
+                let mut other = Between {
+                    all: lent.all.clone(),
+                    ..lent
+                };
+                let bits = other.all[place].to_bits() ^ (1 << bit);
+                other.all[place] = f64::from_bits(bits);
+                unchanged(&other).expect_err("a bit was changed");
+            }
+        }
+    }
+
+    /// A tally tells what it never met.
+    #[test]
+    fn never_is_told() {
+        let mut tally = GaugeTally::default();
+        assert_eq!(tally.never(), NUMBERS);
+        for number in NUMBERS {
+            assert!(tally.never().contains(&number));
+            tally.numbers[number as usize] += 1;
+            assert!(!tally.never().contains(&number));
+        }
+        assert!(tally.never().is_empty());
+    }
+}
