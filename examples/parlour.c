@@ -1,8 +1,10 @@
 /* A pulsator on a vacuum line: the dimensionless groups of the rig's quantities, a test formula written in those
-   groups, and the same formula put back. What a bench programmer would start from. */
+   groups, the same formula put back, and the groups worked out from gauge readings. What a bench programmer would start
+   from. */
 #include <stdint.h>
 #include <stdio.h>
 #include <stdlib.h>
+#include <string.h>
 #include "glaukemis.h"
 
 enum { ROWS = 4, QUANTITIES = 8, TERMS = 4, MOST = QUANTITIES + ROWS };
@@ -26,6 +28,10 @@ static const int32_t exponents[TERMS * QUANTITIES] = {
     0, 2, -2, -2,  0,  2, 0, 0,
     0, 0,  0,  0,  0,  0, 1, 1,
     0, 0,  0,  0,  0,  0, 0, 0};
+
+/* What the gauges of the rig show, in pascals, kilograms per cubic metre, pascal seconds, metres, cubic metres per
+   second, pulses per second and seconds. */
+static const double readings[QUANTITIES] = {42e3, 1030.0, 2.1e-3, 0.0125, 2.0, 1.5e-4, 1.0, 0.6};
 
 /* Each number is four bytes, big-endian two's complement. */
 static void put(uint8_t *bytes, const int32_t *numbers, size_t count)
@@ -118,5 +124,24 @@ int main(void)
     t = glaukemis_translate(ROWS, QUANTITIES, a, sizeof a, p, sizeof p, c, 4, e, 4 * QUANTITIES, kept, sizeof kept,
         translated, sizeof translated);
     printf("\ndensity^1 viscosity^-1 bore^-1 flow^1 alone: number %u, place %u\n", (unsigned)t.number, (unsigned)t.place);
+
+    /* This call takes numbers as they are. */
+    printf("\nthe groups from the gauges\n");
+    for (uint32_t g = 0; g < groups; g++) {
+        glaukemis_gauge_answer r = glaukemis_gauge(ROWS, QUANTITIES, matrix, ROWS * QUANTITIES, moduli, ROWS, readings,
+            QUANTITIES, g);
+        if (r.number != 0)
+            refused("glaukemis_gauge", r.number, r.place);
+        printf("g%u = %.17g\n", (unsigned)(g + 1), r.value);
+    }
+
+    /* A gauge that hangs below zero: the answer carries what it showed. */
+    double hanging[QUANTITIES];
+    memcpy(hanging, readings, sizeof hanging);
+    hanging[3] = -0.0125;
+    glaukemis_gauge_answer r =
+        glaukemis_gauge(ROWS, QUANTITIES, matrix, ROWS * QUANTITIES, moduli, ROWS, hanging, QUANTITIES, 0);
+    printf("with %s read as %g: number %u, place %u, reading %g\n", quantity[3], hanging[3], (unsigned)r.number,
+        (unsigned)r.place, r.value);
     return 0;
 }

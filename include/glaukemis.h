@@ -1,29 +1,31 @@
 /*
- * Glaukemis: dimensions as whole numbers. The build and the translation, for C.
+ * Glaukemis: dimensions as whole numbers. The build, the translation, and a group worked out from gauge readings, for C.
  *
  * A problem is m rows (dimensions) by n columns (quantities) of whole numbers, with one modulus for each row; a modulus of 0 says
  * that the row has none. Below, s is the count of moduli that are not 0, and N = n + s.
  *
- * NUMBERS IN BYTES. Each number in a lent buffer takes four bytes, big-endian two's complement: 00 00 00 05 is 5, ff ff ff fe is -2.
- * A matrix stands row after row, from the top row down, each row from its first column on, without gaps. Every length is in bytes.
- * For b numbers in a buffer its length is 4*b.
+ * NUMBERS IN BYTES. In the build and the translation each number in a lent buffer takes four bytes, big-endian two's complement:
+ * 00 00 00 05 is 5, ff ff ff fe is -2. Every length is in bytes: for b numbers in a buffer its length is 4*b.
+ * NUMBERS AS THEY ARE. glaukemis_gauge takes arrays of int32_t and double, and its counts are in numbers.
+ * In both a matrix stands row after row, from the top row down, each row from its first column on, without gaps.
  *
- * BUFFERS. Each buffer is a pointer and then its length. Inputs are only read. An output may be longer than it has to be, so long as
- * its length is a multiple of four. No pointer may be null, also where its length is 0, and no output may overlap another buffer of
+ * BUFFERS. Each buffer is a pointer and then its length or count. Inputs are only read. An output may be longer than it has to be, so
+ * long as its length is a multiple of four. No pointer may be null, also where its length is 0, and no output may overlap another buffer of
  * the same call. A length must be that of memory that may be read, and for an output also written.
  *
  * SUCCESS. The answer's number and place are 0. The outputs hold what is told at each call in their first bytes; the bytes behind
  * that are untouched.
  *
- * REFUSAL. The answer has the refusal's number and place and 0 in every other field, and every lent byte is as it was. The checks go
- * in the order of their numbers, and the first that finds a fault decides. Places count from 0.
+ * REFUSAL. The answer has the refusal's number and place and 0 in every other field, but for refusal 11 of glaukemis_gauge, which
+ * carries a reading; and every lent byte is as it was. The checks go in the order in which each call lists them, and the first that
+ * finds a fault decides. Places count from 0.
  *
  * STATE AND THREADS. The calls keep no state. They may be made from several threads at once, so long as no thread writes a buffer that
  * another one is reading or writing.
  *
  * STACK. A call takes at most 0.6 MB of stack, on any input: 76,176 bytes, and 10,936 more for each sixteen repetitions of document
  * 01's (A) within one row, of which there are at most 744. The deepest problem that our search found takes 29 repetitions, so 0.1 MB.
- * (The bytes were read off the compiled code for x86-64; the bound of 744 is proved.)
+ * (The bytes were read off the compiled code for x86-64; the bound of 744 is proved.) glaukemis_gauge makes one build.
  */
 #ifndef GLAUKEMIS_H
 #define GLAUKEMIS_H
@@ -55,6 +57,12 @@ typedef struct {
     uint32_t place;  /* the refusal's place, else 0 */
     uint32_t d;      /* the count d = N - r of groups */
 } glaukemis_translate_answer;
+
+typedef struct {
+    uint32_t number; /* 0, or the number of the refusal */
+    uint32_t place;  /* the refusal's place, else 0 */
+    double value;    /* the group's value; of refusal 11 the reading at fault, of every other refusal 0.0 */
+} glaukemis_gauge_answer;
 
 /*
  * The build: the column Hermite form H of the problem's matrix C, the normal multiplier V and its inverse W.
@@ -124,6 +132,42 @@ glaukemis_translate_answer glaukemis_translate(
     const uint8_t *exponents, size_t exponents_length,
     uint8_t *kept, size_t kept_length,
     uint8_t *translated, size_t translated_length);
+
+/*
+ * The value of one group, worked out from a reading for each quantity. The group's exponents are those of its column of V, in the quantity
+ * rows. The value begins at 1.0. Then come the quantities, one after the other: for an exponent e above 0 there are e products with the
+ * quantity's reading, for -e there are e quotients by it. The value is what these operations come to, bit for bit. If all readings are
+ * powers of two, subnormal ones included, and no running value leaves 2^-1022 to 2^1023, nothing is rounded and the value is exact.
+ * Each product and each quotient is rounded to the nearest double, on a tie to the even one. The caller leaves the machine's arithmetic
+ * as it is at the start of a program: no fesetround, no floating-point traps, and no subnormals flushed to zero, as a program does that
+ * is linked with -ffast-math. The call may raise the floating-point flags.
+ *
+ * Inputs
+ *   m, n         as for the build
+ *   matrix       m*n numbers: the entries, each -1000 to 1000
+ *   moduli       m numbers: a modulus for each row, each 0 to 1000
+ *   readings     n numbers: the reading of each quantity, finite and above zero; subnormal readings are taken
+ *   group        the group's number, counted from 0: 0 to d - 1, where d = N - rank is what the build and the translation tell
+ *
+ * The answer, on success: number 0, place 0, and the value
+ *
+ * Refusals, in the order in which they are judged; each carries 0.0 in `value`, but for 11
+ *   1  m or n is out of range                                                                   place 0
+ *   2  matrix has not m*n numbers, moduli not m or readings not n                               place 0
+ *   4  a modulus is out of range                                                                place: the first such row
+ *   5  an entry of the matrix is out of range                                                   place: the first such entry, row after row
+ *   7  a step of the build writes a value beyond 2,147,483,647 either way                       place 0
+ *  11  a reading is not finite or not above zero; `value` is that reading, bit for bit          place: the first such reading
+ *  24  there is no such group                                                                   place: the group's number
+ *  12  an exponent of the group is beyond 64 either way                                         place: the group's number
+ *  13  a running value is zero or not finite                                                    place: the group's number
+ */
+glaukemis_gauge_answer glaukemis_gauge(
+    uint32_t m, uint32_t n,
+    const int32_t *matrix, size_t matrix_count,
+    const int32_t *moduli, size_t moduli_count,
+    const double *readings, size_t readings_count,
+    uint32_t group);
 
 #ifdef __cplusplus
 }
