@@ -1,9 +1,10 @@
 //! An independent second program for document 01 ("Exact rules for the build")
 //! and for order 2 of document 02 ("Groups from the gauges").
 //!
-//! It was written from these documents alone and shares no code with the program
-//! that it is compared with. `model` says what they say, `verify` checks an
-//! answer without the steps, and the rest makes inputs and compares.
+//! It was written from these documents, without a look at the definitions or the
+//! code of the program that it is compared with, and shares none of it. `model` says
+//! what they say, `verify` checks an answer without the steps, and the rest makes
+//! inputs and compares.
 
 pub mod boundary;
 pub mod comparing;
