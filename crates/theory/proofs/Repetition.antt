@@ -2,7 +2,7 @@
 use mathlib.Core.Path.{_≡_, sym, _∙_, ap}
 use mathlib.Core.Logic.{_≢_}
 use mathlib.Core.Bool.{Bool, cond}
-use Prim.Native.Nat.{ℕ, _*_, _≤_, _<_}
+use Prim.Native.Nat.{ℕ, _≤_, _<_}
 use native.Mathlib.Omega.{arith}
 use native.Mathlib.Decide.{ℕ-discrete}
 use lib.Dec.{eqb}
@@ -10,12 +10,12 @@ use lib.IntN.{ℤ, negℤ, natAbs}
 use lib.Signed.{quotZ}
 use Rattle.whole.proofs.Tests.{Test, pass, fail, eq?}
 use Rattle.whole.proofs.Order.{abs-neg}
-use Rattle.whole.proofs.Division.{rem-half, quot-le}
+use Rattle.whole.proofs.Division.{quot-le}
 use Rattle.rules.specs.Search.{none, found, smallest}
 use Rattle.rules.specs.Steps.{State, Table, get, addStep}
 use Rattle.rules.specs.Stages.{size, pivotColumn, otherColumn, done, adds, next}
 use Rattle.theory.proofs.Search.{Smallest, smallest-found}
-use Rattle.theory.proofs.Eliminate.{Adds, next-means, size-off, size-at, size-less}
+use Rattle.theory.proofs.Eliminate.{Adds, next-means, size-off, size-less}
 
 -- ---- what is next, from the searches
 module _ (tb : Table) (lo a k : ℕ) (u : State) where
@@ -36,12 +36,6 @@ module _ (tb : Table) (lo a k : ℕ) (u : State) where
     pub quotient-small : natAbs q ≤ size tb u k j
     unfolding size
     quotient-small = rw (adds-is .quotient) (omega (arith, abs-neg (quotZ (get tb u k j) (get tb u k p)), quot-le (get tb u k j) (get tb u k p)))
-
-    -- so the repetitions are no more than the bits of the entries
-    pub size-halves : 2 * size tb (addStep p j q u) k j < size tb u k j
-    unfolding size
-    size-halves = rw (size-at tb lo a k u p j q adds-is) (rem-half (get tb u k j) (get tb u k p) (omega (arith, adds-is .pivot .filled))
-        (adds-is .pivot .least j (adds-is .active) (adds-is .filled)))
 
     -- the next p: the column changed, or the same again
     pub pivot-after : pivotColumn tb lo a k (addStep p j q u) ≡ found (cond (eqb (size tb (addStep p j q u) k j) 0) p j)

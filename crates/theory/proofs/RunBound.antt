@@ -4,7 +4,6 @@ use mathlib.Core.Bool.{false}
 use mathlib.Core.List.{List}
 use Prim.Native.Nat.{ℕ, _+_, _*_, _-_, _≤_}
 use native.Mathlib.Omega.{arith}
-use native.Mathlib.Nat.{mul-le-mul-left}
 use lib.IntN.{ℤ}
 use Rattle.whole.proofs.Tests.{false-of}
 use Rattle.rules.specs.Problem.{Problem, N, columns}
@@ -17,19 +16,22 @@ use Rattle.theory.proofs.Range.{Fine, steps-fine}
 use Rattle.theory.proofs.RunRange.{Moderate, problem-fine}
 use Rattle.theory.proofs.StepBound.{rows-steps, stage3-steps}
 
+-- 31 for each column are enough for the repetitions that clear none: two columns have 62, and one alone needs none
 module _ (n : ℕ) (u : State) (f : Fine n u) where
-  stage1-steps : (m : ℕ) → stage1 m n u .state .over ≡ false → stage1 m n u .state .steps ≤ u .steps + m * (31 * n + 2)
+  stage1-steps : (m : ℕ) → stage1 m n u .state .over ≡ false → stage1 m n u .state .steps ≤ u .steps + m * (32 * n + 2)
   unfolding stage1
   stage1-steps m o =
-      let all : n - 0 ≡ n = omega arith in
-      rw all at (rows-steps onT n 0 m m (omega arith) (record { state = u; a = n }) (no-row-done onT n 0 m u (f .lines) (omega arith)) f o)
+      let all : n - 0 + 31 * n + 2 ≡ 32 * n + 2 = omega arith in
+      rw all at (rows-steps onT n 0 (31 * n) (omega arith) m m (omega arith) (record { state = u; a = n }) (no-row-done onT n 0 m u (f .lines) (omega arith)) f o)
 
-  stage2-steps : (r : ℕ) → r ≤ n → stage2 n r u .state .over ≡ false → stage2 n r u .state .steps ≤ u .steps + n * (31 * (n - r) + 2)
+  stage2-steps : (r : ℕ) → r ≤ n → stage2 n r u .state .over ≡ false → stage2 n r u .state .steps ≤ u .steps + n * (32 * (n - r) + 2)
   unfolding stage2
-  stage2-steps r h o = rows-steps onV n r n n (omega arith) (record { state = u; a = n }) (no-row-done onV n r n u (f .lines) h) f o
+  stage2-steps r h o =
+      let all : n - r + 31 * (n - r) + 2 ≡ 32 * (n - r) + 2 = omega arith in
+      rw all at (rows-steps onV n r (31 * (n - r)) (omega arith) n n (omega arith) (record { state = u; a = n }) (no-row-done onV n r n u (f .lines) h) f o)
 
 pub runOn-bound : (m n : ℕ) (cols : List (List ℤ)) → Fine n (start cols) → runOn m n cols .state .over ≡ false
-    → runOn m n cols .state .steps ≤ m * (31 * n + 2) + n * (31 * (n - runOn m n cols .rank) + 2) + (n - runOn m n cols .rank) * runOn m n cols .rank
+    → runOn m n cols .state .steps ≤ m * (32 * n + 2) + n * (32 * (n - runOn m n cols .rank) + 2) + (n - runOn m n cols .rank) * runOn m n cols .rank
 unfolding runOn reorder stage1
 runOn-bound m n cols f o = omega (
   arith,
@@ -66,8 +68,4 @@ runOn-bound m n cols f o = omega (
 pub run-bound : (P : Problem) → Moderate P → run P .state .over ≡ false
     → run P .state .steps ≤ P .m * (32 * N P + 2) + N P * (32 * (N P - run P .rank) + 2) + (N P - run P .rank) * run P .rank
 unfolding run
-run-bound P h o =
-    let r : ℕ = runOn (P .m) (N P) (columns P) .rank in
-    let x : P .m * (31 * N P + 2) ≤ P .m * (32 * N P + 2) = mul-le-mul-left (P .m) (omega arith) in
-    let y : N P * (31 * (N P - r) + 2) ≤ N P * (32 * (N P - r) + 2) = mul-le-mul-left (N P) (omega arith) in
-    omega (arith, x, y, runOn-bound (P .m) (N P) (columns P) (problem-fine P h) o)
+run-bound P h o = runOn-bound (P .m) (N P) (columns P) (problem-fine P h) o

@@ -241,7 +241,6 @@ module _ (lo : ℕ) where
       go (pass k) r = refl
       go (fail k) r = omega (arith, r k, h c (omega arith))
 
-  -- less at one index, the same at the others
   pub total-le : (f : ℕ → ℕ) (most hi : ℕ) → ((c : ℕ) → In lo hi c → f c ≤ most) → total f lo hi ≤ most * (hi - lo)
   unfolding total
   total-le f most zero h = omega arith
@@ -254,6 +253,18 @@ module _ (lo : ℕ) where
           let e : suc c - lo ≡ suc (c - lo) = omega arith in
           rw e (omega (arith, h c (omega arith), mul-suc most (c - lo)))
 
+  pub at-most-total : (f : ℕ → ℕ) (hi c : ℕ) → In lo hi c → f c ≤ total f lo hi
+  unfolding total
+  at-most-total f zero c i = absurd (omega arith)
+  at-most-total f (suc d) c i = go (lt? d lo) (ℕ-discrete c d) (at-most-total f d c)
+    where
+      go : {b : Bool} → Test (d < lo) (lo ≤ d) b → Dec (c ≡ d) → (In lo d c → f c ≤ total f lo d)
+          → _≤_ (f c) (elim b [ true ↦ 0 | false ↦ total f lo d + f d ])
+      go (pass h) e r = absurd (omega arith)
+      go (fail h) (yes e) r = omega (arith, ap f e)
+      go (fail h) (no e) r = omega (arith, r (omega arith))
+
+  -- less at one index, the same at the others
   pub total-less : (f g : ℕ → ℕ) (hi j : ℕ) → In lo hi j → g j < f j → ((c : ℕ) → In lo hi c → j ≢ c → g c ≡ f c) → total g lo hi < total f lo hi
   unfolding total
   total-less f g zero j i l h = absurd (omega arith)

@@ -1,70 +1,26 @@
--- How many steps the run takes at most: each repetition of (A) halves an entry, which has at most 31 bits as long as no value has passed M.
-use mathlib.Core.Path.{_≡_, refl, ap}
+-- How many steps each part of the run takes at most; those of (A) are bounded by Depth, as long as no value has passed M.
+use mathlib.Core.Path.{_≡_}
 use mathlib.Core.Bool.{Bool, true, false}
 use Prim.Native.Nat.{ℕ, zero, suc, _+_, _*_, _-_, _≤_, _<_}
 use native.Mathlib.Omega.{arith}
-use native.Mathlib.Decide.{ℕ-discrete}
+use native.Mathlib.Decide.{decLt}
 use native.Mathlib.Nat.{suc-mul}
 use lib.Dec.{eqb}
 use lib.IntN.{ℤ, pos, negℤ}
 use lib.Signed.{ltZ}
 use Rattle.whole.specs.Division.{floorZ}
 use Rattle.whole.proofs.Tests.{Test, pass, fail, lt?, false-of}
-use Rattle.rules.specs.Limits.{M, isZero}
-use Rattle.rules.specs.Search.{Found, none, found, total, each}
+use Rattle.rules.specs.Limits.{isZero}
+use Rattle.rules.specs.Search.{Found, none, found, each}
 use Rattle.rules.specs.Steps.{State, Table, onV, get, swapStep, negateStep, addStep}
-use Rattle.rules.specs.Stages.{size, Next, done, adds, next, repeatA, eliminate, reduce, bring, makePositive, settle, Progress, settled, row, rows, pivotRow, reduceFirst, stage3}
-use Rattle.theory.proofs.Search.{total-le, total-less, SmallestIs, all-zero, is-smallest, smallest-is}
+use Rattle.rules.specs.Stages.{size, eliminate, reduce, bring, makePositive, settle, Progress, settled, row, rows, pivotRow, reduceFirst, stage3}
+use Rattle.theory.proofs.Search.{SmallestIs, all-zero, is-smallest, smallest-is}
 use Rattle.theory.proofs.StepLines.{swap-steps, negate-steps, add-steps}
 use Rattle.theory.proofs.Sequence.{begin, follow}
-use Rattle.theory.proofs.Eliminate.{size-off, once}
-use Rattle.theory.proofs.Repetition.{adds-is, size-halves}
 use Rattle.theory.proofs.Flag.{rows-over}
 use Rattle.theory.proofs.Range.{Fine, steps-fine, fine-get}
 use Rattle.theory.proofs.Stage.{RowsDone, Advanced, row-is}
-use Rattle.theory.proofs.Bits.{bits, bits-le, bits-half}
-
--- the bits of the active entries of row k
-unfoldable pub rowBits : Table → (lo a k : ℕ) → State → ℕ
-rowBits tb lo a k u = total (λ c. bits 31 (size tb u k c)) lo a
-
-pub rowBits-le : (tb : Table) (lo a k : ℕ) (u : State) → rowBits tb lo a k u ≤ 31 * (a - lo)
-unfolding rowBits
-rowBits-le tb lo a k u = total-le lo (λ c. bits 31 (size tb u k c)) 31 a (λ c _. bits-le 31 (size tb u k c))
-
--- ---- (A): also in a row where it is refused, since in that row (A) only makes entries smaller
-module _ (tb : Table) (lo a k : ℕ) where
-  -- a step of (A) takes at least one bit away
-  pub rowBits-fall : (u : State) (p j : ℕ) (q : ℤ) → next tb lo a k u ≡ adds p j q → size tb u k j ≤ M
-      → rowBits tb lo a k (addStep p j q u) < rowBits tb lo a k u
-  unfolding rowBits
-  rowBits-fall u p j q e h = total-less lo (λ c. bits 31 (size tb u k c)) (λ c. bits 31 (size tb (addStep p j q u) k c)) a j
-      (adds-is tb lo a k u p j q e .active)
-      (bits-half 30 (size tb (addStep p j q u) k j) (size tb u k j) (size-halves tb lo a k u p j q e) (omega arith))
-      (λ c i d. ap (bits 31) (size-off tb k u p j q c d))
-
-  step-small : (u : State) (p j : ℕ) (q : ℤ) → next tb lo a k u ≡ adds p j q → ((c : ℕ) → size tb u k c ≤ M)
-      → (c : ℕ) → size tb (addStep p j q u) k c ≤ M
-  step-small u p j q e h c = go (ℕ-discrete j c)
-    where
-      go : Dec (j ≡ c) → size tb (addStep p j q u) k c ≤ M
-      go (yes d) = rw (← d) (omega (arith, size-halves tb lo a k u p j q e, h j))
-      go (no d) = omega (arith, size-off tb k u p j q c d, h c)
-
-  repeatA-steps : (times : ℕ) (u : State) → ((c : ℕ) → size tb u k c ≤ M) → repeatA times tb lo a k u .steps ≤ u .steps + rowBits tb lo a k u
-  unfolding repeatA
-  repeatA-steps zero u f = omega arith
-  repeatA-steps (suc times) u f = go (next tb lo a k u) refl (repeatA-steps times)
-    where
-      go : (x : Next) → next tb lo a k u ≡ x
-          → ((w : State) → ((c : ℕ) → size tb w k c ≤ M) → repeatA times tb lo a k w .steps ≤ w .steps + rowBits tb lo a k w)
-          → once times tb lo a k u x .steps ≤ u .steps + rowBits tb lo a k u
-      go done h r = omega arith
-      go (adds p j q) h r = omega (arith, r (addStep p j q u) (step-small u p j q h f), add-steps p j q u, rowBits-fall u p j q h (f j))
-
-  pub eliminate-steps : (u : State) → ((c : ℕ) → size tb u k c ≤ M) → eliminate tb lo a k u .steps ≤ u .steps + 31 * (a - lo)
-  unfolding eliminate
-  eliminate-steps u f = omega (arith, repeatA-steps (total (size tb u k) lo a) u f, rowBits-le tb lo a k u)
+use Rattle.theory.proofs.Depth.{depth-all-within, depth-alone}
 
 -- ---- (B)
 reduce-steps : (tb : Table) (k b c : ℕ) (u : State) → reduce tb k b c u .steps ≤ suc (u .steps)
@@ -116,25 +72,33 @@ settle-steps tb n k p b u = omega (
   reduces-steps tb k b (suc b) n (makePositive tb k b (bring p b u)),
 )
 
--- ---- rows
-module _ (tb : Table) (n lo : ℕ) where
+-- ---- rows, with e for the repetitions of (A) that clear no column: 42 are enough, and a column alone needs none
+module _ (tb : Table) (n lo e : ℕ) (enough : 1 < n - lo → 42 ≤ e) where
+  eliminate-steps : (k a : ℕ) (u : State) → a ≤ n → Fine n u → u .over ≡ false → eliminate tb lo a k u .steps ≤ u .steps + (a - lo + e)
+  unfolding size
+  eliminate-steps k a u fit f o = go (decLt 1 (a - lo))
+    where
+      go : Dec (1 < a - lo) → eliminate tb lo a k u .steps ≤ u .steps + (a - lo + e)
+      go (yes h) = omega (arith, enough (omega arith), depth-all-within tb lo a k u (λ c _. fine-get n u f o tb k c))
+      go (no h) = omega (arith, depth-alone tb lo a k u (omega arith))
+
   pub row-steps : (k : ℕ) (g : Progress) → g .a ≤ n → Fine n (g .state) → g .state .over ≡ false
-      → row tb n lo k g .state .steps ≤ g .state .steps + (31 * (n - lo) + 2)
-  unfolding row size
+      → row tb n lo k g .state .steps ≤ g .state .steps + (n - lo + e + 2)
+  unfolding row
   row-steps k g fit f o = go (smallest-is (size tb u k) lo (g .a))
     where
       u : State
       u = eliminate tb lo (g .a) k (g .state)
 
-      swept : u .steps ≤ g .state .steps + 31 * (g .a - lo)
-      swept = eliminate-steps tb lo (g .a) k (g .state) (λ c. fine-get n (g .state) f o tb k c)
+      swept : u .steps ≤ g .state .steps + (g .a - lo + e)
+      swept = eliminate-steps k (g .a) (g .state) fit f o
 
-      go : {x : Found} → SmallestIs (size tb u k) lo (g .a) x → settled tb n (g .a) k u x .state .steps ≤ g .state .steps + (31 * (n - lo) + 2)
+      go : {x : Found} → SmallestIs (size tb u k) lo (g .a) x → settled tb n (g .a) k u x .state .steps ≤ g .state .steps + (n - lo + e + 2)
       go (all-zero z) = omega (arith, swept)
       go (is-smallest p s) = omega (arith, s .within .low, s .within .high, settle-steps tb n k p (g .a - 1) u, swept)
 
   pub rows-steps : (m k : ℕ) → k ≤ m → (g : Progress) → RowsDone tb n lo m k (g .state) (g .a) → Fine n (g .state) → rows tb n lo k g .state .over ≡ false
-      → rows tb n lo k g .state .steps ≤ g .state .steps + k * (31 * (n - lo) + 2)
+      → rows tb n lo k g .state .steps ≤ g .state .steps + k * (n - lo + e + 2)
   unfolding rows
   rows-steps m zero h g v f o = omega arith
   rows-steps m (suc k) h g v f o =
@@ -142,7 +106,7 @@ module _ (tb : Table) (n lo : ℕ) where
       let d : Advanced tb n lo m k g w = row-is tb n lo m k h g v in
       let f₂ : Fine n (w .state) = steps-fine (follow (omega arith) begin (d .moves)) f in
       let o₂ : g .state .over ≡ false = false-of (g .state .over) (rows tb n lo (suc k) g .state .over) (rows-over tb n lo (suc k) g) o in
-      omega (arith, suc-mul k (31 * (n - lo) + 2), row-steps k g (v .high) f o₂, rows-steps m k (omega arith) w (d .stands) f₂ o)
+      omega (arith, suc-mul k (n - lo + e + 2), row-steps k g (v .high) f o₂, rows-steps m k (omega arith) w (d .stands) f₂ o)
 
 -- ---- stage 3
 pub stage3-steps : (n r c : ℕ) (u : State) → stage3 n r c u .steps ≤ u .steps + (c - r) * r

@@ -1,8 +1,8 @@
 -- Division of whole numbers: cut toward zero (quotZ and remZ of lib.Signed, the language's own) and rounded down (floorZ of specs/Division).
 use mathlib.Core.Path.{_≡_, refl, sym, _∙_, ap}
-use Prim.Native.Nat.{ℕ, zero, suc, _*_, _/_, _%_, _≤_, _<_}
+use Prim.Native.Nat.{ℕ, zero, suc, _+_, _*_, _-_, _/_, _%_, _≤_, _<_}
 use native.Mathlib.Omega.{arith}
-use native.Mathlib.Nat.{div-add-mod', mod-lt, mod-le, div-le-self, mul-mod-left}
+use native.Mathlib.Nat.{div-add-mod', mod-lt, mod-le, mod-eq-sub-mod, le-of-dvd, dvd-of-mod-eq-zero, div-le-self, mul-mod-left}
 use lib.IntN.{ℤ, pos, negsuc, negℤ, natAbs, _+ℤ_, _*ℤ_, _-ℤ_, +ℤ-idr, negℤ-negℤ}
 use lib.Signed.{_≤ℤ_, _<ℤ_, quotZ, remZ}
 use Rattle.whole.specs.Division.{floorZ}
@@ -53,14 +53,15 @@ multiple-rem q b =
     natAbs-zero (remZ (q *ℤ b) b)
     (abs-rem (q *ℤ b) b ∙ ap (λ (z : ℕ). z % natAbs b) (abs-mul q b) ∙ mul-mod-left (natAbs q) (natAbs b))
 
--- with the quotient as a variable q, so that it can be split into 0, which b ≤ a excludes, and the rest
-mod-half : (a b q : ℕ) → q ≡ a / b → 0 < b → b ≤ a → 2 * (a % b) < a
-mod-half a b zero e h g = omega (arith, mod-lt a h, div-add-mod' a b, ap (λ (z : ℕ). z * b) e)
-mod-half a b (suc q) e h g = omega (arith, mod-lt a h, div-add-mod' a b, ap (λ (z : ℕ). z * b) e)
+-- the divisor and the remainder are together no more than what was divided
+pub mod-sum-le : (a b : ℕ) → b ≤ a → b + a % b ≤ a
+mod-sum-le a b h = omega (arith, mod-eq-sub-mod h, mod-le (a - b) b)
 
--- what bounds the number of steps of a repeated division
-pub rem-half : (a b : ℤ) → 0 < natAbs b → natAbs b ≤ natAbs a → 2 * natAbs (remZ a b) < natAbs a
-rem-half a b h g = rw (abs-rem a b) (mod-half (natAbs a) (natAbs b) (natAbs a / natAbs b) refl h g)
+-- a divisor is at most half of a greater number
+pub divisor-half : (a b : ℕ) → b < a → a % b ≡ 0 → 2 * b ≤ a
+divisor-half a b h e =
+    let l : b ≤ a - b = le-of-dvd (omega arith) (dvd-of-mod-eq-zero b (sym (mod-eq-sub-mod (omega arith)) ∙ e)) in
+    omega arith
 
 -- ---- rounded down
 -- q is a divided by b, rounded down; low and high together say that b is above 0
