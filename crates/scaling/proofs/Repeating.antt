@@ -19,10 +19,9 @@ use Rattle.theory.proofs.Eliminate.{Adds, total-falls, eliminate-done, eliminat
 use Rattle.theory.proofs.Repetition.{adds-is, quotient-small, pivot-after}
 use Rattle.theory.proofs.Flag.{eliminate-over}
 use Rattle.scaling.specs.declared.work.Work.{Work}
-use Rattle.scaling.specs.declared.work.Repeated.{Repeated}
 use Rattle.scaling.specs.Join.{stateOf, Fine, Two, Tracks, most, tableFor, heightFor}
 use Rattle.scaling.specs.Scan.{Other, Divisible}
-use Rattle.scaling.specs.Rows.{sizesIn, left, Ready, Eliminated, Repeats}
+use Rattle.scaling.specs.Rows.{sizesIn, left, Ready, Eliminated}
 use Rattle.scaling.proofs.TableRow.{RowIn, size-in, size-small}
 use Rattle.scaling.proofs.State.{state-steps}
 use Rattle.scaling.proofs.Tracking.{add-steps, over-tracks, same-tracks}
@@ -116,41 +115,6 @@ module _ {stage2 : Bool} {m n row lo a p j : ℕ} {q : ℤ} {s : Work} (f : Fine
               counted = λ o. omega (arith, g .counted o, counted clear, falls clear);
             };
           }
-
-  pub column-below : j < a
-  column-below = parts .active .high
-
--- ---- one after the other: more are allowed of sixteen, and w is the state so far
-pub record Repeating (stage2 : Bool) (m n row lo a p j : ℕ) (q : ℤ) (more : ℕ) (s w : Work) : Type 0 where
-  pub fine : Fine m n w
-  pub ready : Ready stage2 m n row lo a p j q w
-  pub upto : left stage2 m n w row lo a ≤ left stage2 m n s row lo a
-  pub less : more < 16 → left stage2 m n w row lo a < left stage2 m n s row lo a
-  pub rest : (z : Work) → Eliminated stage2 m n row lo a w z → Eliminated stage2 m n row lo a s z
-
-pub repeating-start : {stage2 : Bool} {m n row lo a p j : ℕ} {q : ℤ} {s : Work} → Fine m n s → Ready stage2 m n row lo a p j q s
-    → Repeating stage2 m n row lo a p j q 16 s s
-repeating-start f rd = record { fine = f; ready = rd; upto = omega arith; less = λ h. absurd (omega arith); rest = λ z e. e }
-
-module _ {stage2 : Bool} {m n row lo a p j : ℕ} {q : ℤ} {more : ℕ} {s w : Work} (g : Repeating stage2 m n row lo a p j q more s w) where
-  pub repeating-next : {v : Work} {xs : List ℤ} {x k : ℕ} → GoesOn stage2 m n row lo a w v xs x k
-      → (z : ℤ) → z ≡ negℤ (quotZ (nth xs (k + row * n)) (nth xs (x + row * n))) → (less : ℕ) → Repeating stage2 m n row lo a x k z less s v
-  repeating-next o z e l = record {
-    fine = o .fine;
-    ready = o .ready z e;
-    upto = omega (arith, o .less, g .upto);
-    less = λ _. omega (arith, o .less, g .upto);
-    rest = λ y h. g .rest y (o .rest y h);
-  }
-
-  pub repeating-ended : (r : Repeated) → r .j ≡ a → Eliminated stage2 m n row lo a w (r .work) → Repeats stage2 m n row lo a s r
-  repeating-ended r e h = record { ended = λ _. g .rest (r .work) h; goes-on = λ d. absurd (d e) }
-
-  pub repeating-stopped : more < 16 → Repeats stage2 m n row lo a s (record { work = w; p = p; j = j; q = q })
-  repeating-stopped h = record {
-    ended = λ e. absurd (omega (arith, column-below (g .fine) (g .ready)));
-    goes-on = λ _. record { fine = g .fine; ready = g .ready; less = g .less h; rest = g .rest };
-  }
 
 -- ---- the first repetition
 -- a row whose smallest entry stands in column p

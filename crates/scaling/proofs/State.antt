@@ -104,6 +104,10 @@ pub record Long (s : Work) : Type 0 where
 pub row-start : {m n : ℕ} {s : Work} → Fine m n s → (c : ℕ) → c < n → c * n < 576
 row-start {m} {n} {s} f c h = omega (arith, square m n s f, cell {j = 0} {n = n} {k = c} {m = n} (omega arith) h)
 
+-- the places of fewer turns
+pub fewer : {xs : List ℤ} {at stride count less : ℕ} → Within xs at stride count → less ≤ count → Within xs at stride less
+fewer w h = record { each = λ k l. w .each k (omega arith) }
+
 module _ {m n : ℕ} {s : Work} (f : Fine m n s) (long : Long s) where
   pub t-room : m * n ≤ length (s .t)
   t-room = omega (arith, long .t, area m n s f)

@@ -15,7 +15,7 @@ use Rattle.whole.proofs.Exchange.{tr, tr-first, tr-second, tr-neither}
 use Rattle.rules.specs.Steps.{Line, State, blank, anyBeyond, values, step, plus, swapStep, negated, negateStep, source, target, addStep, reorder}
 use Rattle.theory.proofs.Flag.{anyBeyond-append}
 use Rattle.scaling.specs.declared.work.Work.{Work}
-use Rattle.scaling.specs.Flat.{addF, addO, swapF, negF, turnF}
+use Rattle.scaling.specs.Flat.{Added, addF, swapF, negF, turnF}
 use Rattle.scaling.specs.Join.{pick, lineOf, stateOf, Small, Fine, Tracks, Same}
 use Rattle.scaling.proofs.Places.{columns, rows}
 use Rattle.scaling.proofs.Turns.{addF-small, negF-small, swapF-small, turnF-small}
@@ -29,6 +29,14 @@ pub record Made (r : Work) (ts vs ws : List ℤ) (count : ℕ) (flag : Bool) : T
   pub w : r .w ≡ ws
   pub steps : r .steps ≡ count
   pub over : r .over ≡ flag
+
+-- what the three loops of an addition answered, and what the method made of it
+pub record Summed (m n : ℕ) (s r : Work) (i j : ℕ) (q : ℤ) (a b c : Bool) : Type 0 where
+  pub t : Added (s .t) (r .t) j i n q m a
+  pub v : Added (s .v) (r .v) j i n q n b
+  pub w : Added (s .w) (r .w) (i * n) (j * n) 1 (negℤ q) n c
+  pub steps : r .steps ≡ s .steps + 1
+  pub over : r .over ≡ a || (b || c)
 
 line-eq : {t t′ v v′ w w′ : List ℤ} → t ≡ t′ → v ≡ v′ → w ≡ w′ → _≡_ {A = Line} (record { t = t; v = v; w = w }) (record { t = t′; v = v′; w = w′ })
 line-eq a b c = λ k. record { t = a k; v = b k; w = c k }
@@ -133,9 +141,7 @@ module _ {m n : ℕ} {s : Work} (r : Work) (f : Fine m n s) (long : Long s) wher
     }
 
   -- ---- add
-  module _ (i j : ℕ) (q : ℤ) (hi : i < n) (hj : j < n) (d : i ≢ j)
-      (g : Made r (addF (s .t) j i n q m) (addF (s .v) j i n q n) (addF (s .w) (i * n) (j * n) 1 (negℤ q) n) (s .steps + 1)
-      (addO (s .t) j i n q m || (addO (s .v) j i n q n || addO (s .w) (i * n) (j * n) 1 (negℤ q) n))) where
+  module _ (i j : ℕ) (q : ℤ) (hi : i < n) (hj : j < n) (d : i ≢ j) {a b c : Bool} (g : Summed m n s r i j q a b c) where
     abbrev x : Line
     x = source q (lineIn m n s i) (lineIn m n s j)
 
@@ -153,39 +159,42 @@ module _ {m n : ℕ} {s : Work} (r : Work) (f : Fine m n s) (long : Long s) wher
     flag : r .over ≡ anyBeyond (y .t ++ y .v ++ x .w)
     unfolding lineOf
     flag = g .over
-        ∙ ap₂ _||_ (add-flag (columns m n) (s .t) i j q hi hj apart)
-        (ap₂ _||_ (add-flag (columns n n) (s .v) i j q hi hj apart) (add-flag (rows n) (s .w) j i (negℤ q) hj hi d))
+        ∙ ap₂ _||_ (g .t .flag ∙ add-flag (columns m n) (s .t) i j q hi hj apart)
+        (ap₂ _||_ (g .v .flag ∙ add-flag (columns n n) (s .v) i j q hi hj apart) (g .w .flag ∙ add-flag (rows n) (s .w) j i (negℤ q) hj hi d))
         ∙ sym (anyBeyond-append (y .t ++ y .v) (x .w) ∙ ap (λ (b : Bool). b || anyBeyond (x .w)) (anyBeyond-append (y .t) (y .v))
         ∙ or-assoc (anyBeyond (y .t)) (anyBeyond (y .v)) (anyBeyond (x .w)))
 
     module _ (o : r .over ≡ false) where
-      rest-clear : addO (s .v) j i n q n || addO (s .w) (i * n) (j * n) 1 (negℤ q) n ≡ false
-      rest-clear = or-neither (addO (s .t) j i n q m) (addO (s .v) j i n q n || addO (s .w) (i * n) (j * n) 1 (negℤ q) n) (sym (g .over) ∙ o) .1
+      none : (a ≡ false) × (b || c ≡ false)
+      none = or-neither a (b || c) (sym (g .over) ∙ o)
+
+      others : (b ≡ false) × (c ≡ false)
+      others = or-neither b c (none .1)
+
+      made : Made r (addF (s .t) j i n q m) (addF (s .v) j i n q n) (addF (s .w) (i * n) (j * n) 1 (negℤ q) n) (s .steps + 1) false
+      made = record { t = g .t .list (none .0); v = g .v .list (others .0); w = g .w .list (others .1); steps = g .steps; over = o }
 
       in-t : Written n j (plus q (pick (s .t) j n m) (pick (s .t) i n m)) (λ c. pick (s .t) c n m) (λ c. pick (addF (s .t) j i n q m) c n m)
-      in-t = add-lines (columns m n) (s .t) i j q hi hj apart (t-in f long j hj)
-          (or-neither (addO (s .t) j i n q m) (addO (s .v) j i n q n || addO (s .w) (i * n) (j * n) 1 (negℤ q) n) (sym (g .over) ∙ o) .0)
+      in-t = add-lines (columns m n) (s .t) i j q hi hj apart (t-in f long j hj) (sym (g .t .flag) ∙ none .0)
 
       in-v : Written n j (plus q (pick (s .v) j n n) (pick (s .v) i n n)) (λ c. pick (s .v) c n n) (λ c. pick (addF (s .v) j i n q n) c n n)
-      in-v = add-lines (columns n n) (s .v) i j q hi hj apart (v-in f long j hj)
-          (or-neither (addO (s .v) j i n q n) (addO (s .w) (i * n) (j * n) 1 (negℤ q) n) rest-clear .0)
+      in-v = add-lines (columns n n) (s .v) i j q hi hj apart (v-in f long j hj) (sym (g .v .flag) ∙ others .0)
 
       in-w : Written n i (plus (negℤ q) (pick (s .w) (i * n) 1 n) (pick (s .w) (j * n) 1 n)) (λ c. pick (s .w) (c * n) 1 n)
           (λ c. pick (addF (s .w) (i * n) (j * n) 1 (negℤ q) n) (c * n) 1 n)
-      in-w = add-lines (rows n) (s .w) j i (negℤ q) hj hi d (w-in f long i hi)
-          (or-neither (addO (s .v) j i n q n) (addO (s .w) (i * n) (j * n) 1 (negℤ q) n) rest-clear .1)
+      in-w = add-lines (rows n) (s .w) j i (negℤ q) hj hi d (w-in f long i hi) (sym (g .w .flag) ∙ others .1)
 
       at-source : lineIn m n r i ≡ x
       unfolding lineOf
-      at-source = rw (g .t, g .v, g .w) (line-eq (in-t .off i hi d) (in-v .off i hi d) (in-w .here))
+      at-source = rw (made .t, made .v, made .w) (line-eq (in-t .off i hi d) (in-v .off i hi d) (in-w .here))
 
       at-target : lineIn m n r j ≡ y
       unfolding lineOf
-      at-target = rw (g .t, g .v, g .w) (line-eq (in-t .here) (in-v .here) (in-w .off j hj apart))
+      at-target = rw (made .t, made .v, made .w) (line-eq (in-t .here) (in-v .here) (in-w .off j hj apart))
 
       at-others : (c : ℕ) → c < n → c ≢ i → c ≢ j → lineIn m n r c ≡ lineIn m n s c
       unfolding lineOf
-      at-others c l a b = rw (g .t, g .v, g .w) (line-eq (in-t .off c l b) (in-v .off c l b) (in-w .off c l a))
+      at-others c l a b = rw (made .t, made .v, made .w) (line-eq (in-t .off c l b) (in-v .off c l b) (in-w .off c l a))
 
       add-is : stateOf m n r ≡ addStep i j q u
       add-is = step-is (set (set (u .lines) i x) j y) (y .t ++ y .v ++ x .w) (simp length-set (state-count m n s))
@@ -197,7 +206,7 @@ module _ {m n : ℕ} {s : Work} (r : Work) (f : Fine m n s) (long : Long s) wher
     unfolding step
     add-tracks = record {
       flag = flag ∙ sym (ap (λ (w : State). w .over) add-step ∙ rw (state-over m n s, f .clear));
-      fine = λ o. fine-made g o (addF-small (s .t) j i n q (f .t) m) (addF-small (s .v) j i n q (f .v) n) (addF-small (s .w) (i * n) (j * n) 1 (negℤ q) (f .w) n);
+      fine = λ o. fine-made (made o) o (addF-small (s .t) j i n q (f .t) m) (addF-small (s .v) j i n q (f .v) n) (addF-small (s .w) (i * n) (j * n) 1 (negℤ q) (f .w) n);
       same = add-is;
     }
 

@@ -1,4 +1,5 @@
 -- The loops on a flat list, as functions of the turns done: what the list is then, and whether a value was beyond M.
+use mathlib.Core.Path.{_≡_}
 use mathlib.Core.Bool.{Bool, false, cond, _||_}
 use mathlib.Core.List.{List}
 use Prim.Native.Nat.{ℕ, zero, suc, _+_, _*_, _/_, _%_, _<_}
@@ -27,6 +28,11 @@ addF xs to from stride q (suc k) =
 unfoldable pub addO : List ℤ → (to from stride : ℕ) → ℤ → (turns : ℕ) → Bool
 addO xs to from stride q zero = false
 addO xs to from stride q (suc k) = beyond (sumAt q (to + k * stride) (from + k * stride) (addF xs to from stride q k)) || addO xs to from stride q k
+
+-- the list was entry and is exit after the turns of an addition, or one of them met a value beyond M; whether one did
+pub record Added (entry exit : List ℤ) (to from stride : ℕ) (q : ℤ) (turns : ℕ) (over : Bool) : Type 0 where
+  pub flag : over ≡ addO entry to from stride q turns
+  pub list : over ≡ false → exit ≡ addF entry to from stride q turns
 
 unfoldable pub swapF : List ℤ → (one two stride : ℕ) → (turns : ℕ) → List ℤ
 swapF xs x y stride zero = xs

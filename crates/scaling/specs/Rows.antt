@@ -1,13 +1,11 @@
 -- (A), (B), a row, all rows and stage 3, on the code's state. row is the row's number, lo to a are the active columns.
 use mathlib.Core.Path.{_≡_}
-use mathlib.Core.Logic.{_≢_}
 use mathlib.Core.Bool.{Bool, false}
 use Prim.Native.Nat.{ℕ, _+_, _-_, _*_, _<_, _≤_}
 use lib.IntN.{ℤ}
 use Rattle.rules.specs.Search.{found, smallest, total, each}
 use Rattle.rules.specs.Stages.{size, adds, next, eliminate, reduce, row, rows, Progress}
 use Rattle.scaling.specs.declared.work.Work.{Work}
-use Rattle.scaling.specs.declared.work.Repeated.{Repeated}
 use Rattle.scaling.specs.Join.{stateOf, Fine, Tracks, most, tableFor, heightFor}
 
 abbrev pub sizesIn : (stage2 : Bool) → (m n : ℕ) → Work → (row c : ℕ) → ℕ
@@ -27,17 +25,6 @@ pub record Ready (stage2 : Bool) (m n row lo a p j : ℕ) (q : ℤ) (s : Work) :
 pub record Eliminated (stage2 : Bool) (m n row lo a : ℕ) (s r : Work) : Type 0 where
   pub tracks : Tracks m n r (eliminate (tableFor stage2) lo a row (stateOf m n s))
   pub counted : r .over ≡ false → r .steps ≤ s .steps + left stage2 m n s row lo a
-
--- after some repetitions of (A) the state is w, and the next adds q times column p to column j
-pub record Further (stage2 : Bool) (m n row lo a p j : ℕ) (q : ℤ) (s w : Work) : Type 0 where
-  pub fine : Fine m n w
-  pub ready : Ready stage2 m n row lo a p j q w
-  pub less : left stage2 m n w row lo a < left stage2 m n s row lo a
-  pub rest : (z : Work) → Eliminated stage2 m n row lo a w z → Eliminated stage2 m n row lo a s z
-
-pub record Repeats (stage2 : Bool) (m n row lo a : ℕ) (s : Work) (r : Repeated) : Type 0 where
-  pub ended : r .j ≡ a → Eliminated stage2 m n row lo a s (r .work)
-  pub goes-on : r .j ≢ a → Further stage2 m n row lo a (r .p) (r .j) (r .q) s (r .work)
 
 -- the pivot's column b, and what is left to count
 pub record Pivot (stage2 : Bool) (m n row b : ℕ) (s : Work) (more : ℕ) : Type 0 where

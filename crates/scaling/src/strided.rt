@@ -4,7 +4,7 @@ ghost use mathlib.Core.Bool.{_||_};
 ghost use Prim.Native.Nat.{_<_, _≤_, _*_};
 ghost use lib.ListN.{length};
 ghost use lib.IntN.{natAbs};
-ghost use Rattle.scaling.specs.Flat.{Within, addF, addO, swapF, negF, turnF};
+ghost use Rattle.scaling.specs.Flat.{Within, Added, swapF, negF, turnF};
 use crate::numbers::beyond;
 use crate::numbers::mix;
 use crate::numbers::opposite;
@@ -16,28 +16,27 @@ pub fn either(a: bool, b: bool) -> bool
     if a { true } else { b }
 }
 
-// a[to + k * stride] gains q times a[from + k * stride], for each k below count. Whether a value was beyond M.
+// a[to + k * stride] gains q times a[from + k * stride], for each k below count, until a value is beyond M: whether one was.
 pub fn add(a: &mut [i32], to: usize, from: usize, stride: usize, count: usize, q: i64) -> bool
     requires { ⌜ Within (now a) to stride count ⌝ }
     requires { ⌜ Within (now a) from stride count ⌝ }
     requires { ⌜ natAbs q ≤ 2147483648 ⌝ }
-    ensures { λ r. ⌜ now (a .exit) ≡ addF (now (a .entry)) to from stride q count ⌝ }
-    ensures { λ r. ⌜ r ≡ addO (now (a .entry)) to from stride q count ⌝ }
+    ensures { λ r. ⌜ Added (now (a .entry)) (now (a .exit)) to from stride q count r ⌝ }
 {
-    let mut over = false;
     let mut k = 0;
     while k < count {
         let at = to + k * stride;
         let y = a[from + k * stride];
         let x = a[at];
         let z = mix(x, q, y);
+        if beyond(z) {
+            return true;
+        }
         let s = stored(z);
-        let o = beyond(z);
         a[at] = s;
-        over = either(o, over);
         k += 1;
     }
-    over
+    false
 }
 
 pub fn swap(a: &mut [i32], one: usize, two: usize, stride: usize, count: usize)
@@ -93,8 +92,7 @@ pub fn add_t(
     requires { ⌜ Within (now a) to stride count ⌝ }
     requires { ⌜ Within (now a) from stride count ⌝ }
     requires { ⌜ natAbs q ≤ 2147483648 ⌝ }
-    ensures { λ r. ⌜ now (a .exit) ≡ addF (now (a .entry)) to from stride q count ⌝ }
-    ensures { λ r. ⌜ r ≡ addO (now (a .entry)) to from stride q count ⌝ }
+    ensures { λ r. ⌜ Added (now (a .entry)) (now (a .exit)) to from stride q count r ⌝ }
 {
     add(a, to, from, stride, count, q)
 }
@@ -132,8 +130,7 @@ pub fn add_v(
     requires { ⌜ Within (now a) to stride count ⌝ }
     requires { ⌜ Within (now a) from stride count ⌝ }
     requires { ⌜ natAbs q ≤ 2147483648 ⌝ }
-    ensures { λ r. ⌜ now (a .exit) ≡ addF (now (a .entry)) to from stride q count ⌝ }
-    ensures { λ r. ⌜ r ≡ addO (now (a .entry)) to from stride q count ⌝ }
+    ensures { λ r. ⌜ Added (now (a .entry)) (now (a .exit)) to from stride q count r ⌝ }
 {
     add(a, to, from, stride, count, q)
 }

@@ -13,7 +13,7 @@ ghost use Rattle.rules.specs.Steps as steps;
 ghost use Rattle.rules.specs.Stages as stages;
 ghost use Rattle.scaling.specs.Join.{stateOf, Fine, Tracks, Same, One, Two, entriesFor};
 ghost use Rattle.scaling.specs.Scan.{sizes, Other, betterOf, Comparable, Divisible, Divisors, Unreduced, Lowest};
-ghost use Rattle.scaling.specs.Rows.{Ready, Repeats, Eliminated, Pivot, Apart, AllReduced, RowBegun, RowDone, RowsBegun, RowsDone, Stage3Begun};
+ghost use Rattle.scaling.specs.Rows.{Ready, Eliminated, Pivot, Apart, AllReduced, RowBegun, RowDone, RowsBegun, RowsDone, Stage3Begun};
 use crate::numbers::cut;
 use crate::numbers::floor;
 use crate::numbers::is_negative;
@@ -44,14 +44,6 @@ pub struct Work {
 pub struct Progress {
     pub work: Work,
     pub a: usize,
-}
-
-// The state after some repetitions of (A), and what the next one is: q times column p to column j. Where none is left, or the state is over, j is a.
-pub struct Repeated {
-    pub work: Work,
-    pub p: usize,
-    pub j: usize,
-    pub q: i64,
 }
 
 // The table that a stage looks at: V in stage 2, else T.
@@ -218,54 +210,7 @@ impl Work {
         self
     }
 
-    // Repetitions of (A), sixteen at most.
-    fn repeat(
-        mut self,
-        m: usize,
-        n: usize,
-        stage2: bool,
-        row: usize,
-        lo: usize,
-        a: usize,
-        pivot: usize,
-        column: usize,
-        times: i64,
-    ) -> Repeated
-        requires { ⌜ Fine m n self ⌝ }
-        requires { ⌜ Ready stage2 m n row lo a pivot column times self ⌝ }
-        ensures { λ r. ⌜ Repeats stage2 m n row lo a self r ⌝ }
-    {
-        let base = row * n;
-        let mut p = pivot;
-        let mut j = column;
-        let mut q = times;
-        let mut more: usize = 16;
-        while 0 < more {
-            self = self.add(m, n, p, j, q);
-            let x = table(&self.t, &self.v, stage2);
-            p = next_pivot(x, base, p, j);
-            j = other(x, base, p, lo, a);
-            let over = self.over;
-            if either(over, j == a) {
-                return Repeated {
-                    work: self,
-                    p: p,
-                    j: a,
-                    q: 0,
-                };
-            }
-            q = quotient(x, base, p, j);
-            more -= 1;
-        }
-        Repeated {
-            work: self,
-            p: p,
-            j: j,
-            q: q,
-        }
-    }
-
-    // (A) until one column is left: some repetitions, and the rest.
+    // (A), once and then again, until one column is left or a value is beyond M: q times column p is added to column j.
     fn eliminate(
         mut self,
         m: usize,
@@ -282,15 +227,18 @@ impl Work {
         requires { ⌜ Ready stage2 m n row lo a p j q self ⌝ }
         ensures { λ r. ⌜ Eliminated stage2 m n row lo a self r ⌝ }
     {
-        let r = self.repeat(m, n, stage2, row, lo, a, p, j, q);
-        let next = r.p;
-        let k = r.j;
-        let x = r.q;
-        if k == a {
-            self = r.work;
+        let base = row * n;
+        let work = self.add(m, n, p, j, q);
+        let x = table(&work.t, &work.v, stage2);
+        let next = next_pivot(x, base, p, j);
+        let k = other(x, base, next, lo, a);
+        let over = work.over;
+        if either(over, k == a) {
+            self = work;
             return self;
         }
-        self = r.work.eliminate(m, n, stage2, row, lo, a, next, k, x);
+        let r = quotient(x, base, next, k);
+        self = work.eliminate(m, n, stage2, row, lo, a, next, k, r);
         self
     }
 

@@ -87,7 +87,7 @@ copy-requires-3 : tie.Need-copy-requires-3
 copy-requires-3 c κs = (omega (arith, square (else3 c), b (else3 c) .pre .1 .w), omega (arith, square (else3 c), long (else3 c) .w))
 
 cast-t27 : tie.Need-cast-t27
-cast-t27 c = let h = rank (else3 (c .before .before .before)) in omega arith
+cast-t27 c = let e = else3 (c .before .before .before) in omega (arith, rank e, few e)
 
 cast-t28 : tie.Need-cast-t28
 cast-t28 c = let h = few (else3 (c .before .before .before .before)) in omega arith

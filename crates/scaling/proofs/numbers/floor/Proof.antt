@@ -1,9 +1,9 @@
 -- `numbers::floor` meets its contract: by the signs of x and y, a quotient cut toward zero or one less than its opposite; each value fits 64 bits.
-use mathlib.Core.Path.{_≡_}
+use mathlib.Core.Path.{_≡_, sym, _∙_, ap}
 use Prim.Native.Nat.{_≤_, _<_}
 use native.Mathlib.Omega.{arith}
 use lib.IntN.{ℤ, pos, negsuc, negℤ, natAbs, _-ℤ_, +ℤ-idl}
-use lib.Signed.{_<ℤ_, quotZ}
+use lib.Signed.{_<ℤ_, ltZ, quotZ}
 use mir.Syntax.{w32, w64}
 use mir.Val.{SFits, toZ, ofZ}
 use mir.Facts.{toZ-ofZ}
@@ -63,6 +63,9 @@ module _ (s : tie.Start) where
   y-back : toZ w64 (ofZ w64 (toZ w32 (ofZ w32 y))) ≡ y
   y-back = widened y (s .fits .y)
 
+  x-tested : ltZ x (pos 0) ≡ ltZ (toZ w64 (ofZ w64 (toZ w32 (ofZ w32 x)))) (pos 0)
+  x-tested = ap (λ (z : ℤ). ltZ z (pos 0)) (sym x-back)
+
 cast-a : tie.Need-cast-a
 cast-a c = cast-fits (x c) (c .fits .x)
 
@@ -120,12 +123,12 @@ returns : tie.Need-returns
 returns c =
     let s = c .before .before in
     simp (y-back s, x-back s, toZ-ofZ (up s), toZ-ofZ (near-quot s (negsuc 0 -ℤ x s) (y s) (up-abs s)), toZ-ofZ (near-less s (negsuc 0 -ℤ x s) (y s) (up-abs s)))
-    (floor-neg-pos (x s) (y s) (pos-y (c .before)) (is-lt (x s) (pos 0) (rw (x-back s) at (c .if2 .taken))))
+    (floor-neg-pos (x s) (y s) (pos-y (c .before)) (is-lt (x s) (pos 0) (x-tested s ∙ c .if2 .taken)))
 
 returns-2 : tie.Need-returns-2
 returns-2 c =
     let s = c .before .before in
-    simp (y-back s, x-back s, toZ-ofZ (quot s)) (floor-pos-pos (x s) (y s) (pos-y (c .before)) (is-le (x s) (pos 0) (rw (x-back s) at (c .if2 .left))))
+    simp (y-back s, x-back s, toZ-ofZ (quot s)) (floor-pos-pos (x s) (y s) (pos-y (c .before)) (is-le (x s) (pos 0) (x-tested s ∙ c .if2 .left)))
 
 returns-3 : tie.Need-returns-3
 returns-3 c =

@@ -1,9 +1,10 @@
--- `strided::add` meets its contract: after k turns the list is `addF` at k, and the flag is `addO` at k.
-use mathlib.Core.Path.{_≡_, refl, ap, sym, _∙_}
-use mathlib.Core.Bool.{Bool, _||_}
+-- `strided::add` meets its contract: after k turns the list is `addF` at k, and `addO` at k is false; the turn that makes it true ends the loop.
+use mathlib.Core.Path.{_≡_, refl, ap, ap₂, sym, _∙_}
+use mathlib.Core.Bool.{Bool, true, false, _||_}
 use mathlib.Core.List.{List}
-use Prim.Native.Nat.{ℕ, _≤_, _<_, _-_, _+_, _*_}
+use Prim.Native.Nat.{ℕ, zero, suc, _≤_, _<_, _-_, _+_, _*_}
 use native.Mathlib.Numerals.{add-one}
+use native.Mathlib.Nat.{zero-add, suc-add}
 use native.Mathlib.Omega.{arith}
 use borrow.Author.Needs.{needs}
 use lib.ListN.{length, set, length-set}
@@ -13,16 +14,17 @@ use mir.Val.{toZ, ofZ}
 use mir.Facts.{toZ-ofZ}
 use Rattle.whole.specs.Lists.{nth}
 use Rattle.rules.specs.Limits.{beyond}
+use Rattle.whole.proofs.Tests.{true-not-false}
 use Rattle.scaling.specs.Flat.{addF, addO, keep, sumAt}
 use Rattle.scaling.proofs.strided.add.Statement.{statement}
 use Rattle.scaling.proofs.strided.add.Tie as tie
 
 abbrev Inv-loop : tie.InvT-loop
-Inv-loop a₀ to from stride count q over₀ k₀ a over k =
-    (k ≤ count) × (length a ≡ length a₀) × (a ≡ addF a₀ to from stride (toZ w64 q) k) × (over ≡ addO a₀ to from stride (toZ w64 q) k)
+Inv-loop a₀ to from stride count q k₀ a k =
+    (k ≤ count) × (length a ≡ length a₀) × (a ≡ addF a₀ to from stride (toZ w64 q) k) × (addO a₀ to from stride (toZ w64 q) k ≡ false)
 
 abbrev μ-loop : tie.MeasureT-loop
-μ-loop a₀ to from stride count q over₀ k₀ a over k = count - k
+μ-loop a₀ to from stride count q k₀ a k = count - k
 
 module _ (c : tie.In-loop Inv-loop μ-loop) where
   to-in : c .before .before .args .to + c .before .loop .k * c .before .before .args .stride < length (c .before .before .args .a .now)
@@ -62,26 +64,8 @@ slice-copy-out-x c = let h = to-in (c .before) in omega arith
 mix-requires : tie.Need-mix-requires Inv-loop μ-loop
 mix-requires c κs = let s = c .before .before .before .before in rw (toZ-ofZ (s .fits .q)) (s .pre .1 .1)
 
-stored-requires : tie.Need-stored-requires Inv-loop μ-loop
-stored-requires c κs = search needs
-
 beyond-requires : tie.Need-beyond-requires Inv-loop μ-loop
 beyond-requires c κs = search needs
-
-mul-s : tie.Need-mul-s Inv-loop μ-loop
-mul-s c = let h = to-in (c .before .before .before .before .before) in omega arith
-
-slice-set-from-s : tie.Need-slice-set-from-s Inv-loop μ-loop
-slice-set-from-s c = let h = to-in (c .before .before .before .before .before) in omega arith
-
-either-requires : tie.Need-either-requires Inv-loop μ-loop
-either-requires c κs = search needs
-
-add-k : tie.Need-add-k Inv-loop μ-loop
-add-k c = omega arith
-
-loop-less : tie.Need-loop-less Inv-loop μ-loop
-loop-less c = omega arith
 
 mixed : (q x y : ℤ) {z x′ y′ : ℤ} → z ≡ x′ +ℤ q *ℤ y′ → x′ ≡ x → y′ ≡ y → z ≡ x +ℤ q *ℤ y
 mixed q x y e f g = rw (e, f, g)
@@ -98,38 +82,100 @@ value c =
     (toZ-ofZ (record { sfits = c .mix .ok }) ∙ c .mix .ensures)
     (toZ-ofZ {w = w32} (record { sfits = c .before .x .given })) (toZ-ofZ {w = w32} (record { sfits = c .before .before .y .given }))
 
+or-right : (a : Bool) {b : Bool} → b ≡ true → a || b ≡ true
+or-right true e = refl
+or-right false e = e
+
+-- a flag that is up stays up
+addO-next : (xs : List ℤ) (to from stride : ℕ) (q : ℤ) (k : ℕ) → addO xs to from stride q k ≡ true → addO xs to from stride q (suc k) ≡ true
+unfolding addO
+addO-next xs to from stride q k e = or-right (beyond (sumAt q (to + k * stride) (from + k * stride) (addF xs to from stride q k))) e
+
+addO-stays : (xs : List ℤ) (to from stride : ℕ) (q : ℤ) (k more : ℕ) → addO xs to from stride q k ≡ true → addO xs to from stride q (more + k) ≡ true
+addO-stays xs to from stride q k zero e = rw (zero-add k) e
+addO-stays xs to from stride q k (suc more) e = rw (suc-add more k) (addO-next xs to from stride q (more + k) (addO-stays xs to from stride q k more e))
+
+or-false : (b : Bool) → b || false ≡ b
+or-false true = refl
+or-false false = refl
+
 turn : (at from : ℕ) (q : ℤ) {a f : List ℤ} {s z : ℤ} → a ≡ f → s ≡ keep z → z ≡ sumAt q at from a → set a at s ≡ set f at (keep (sumAt q at from f))
 turn at from q e g h = rw (g, h, e)
 
-flag : (at from : ℕ) (q : ℤ) {a f : List ℤ} {z : ℤ} {r b o o′ : Bool} → a ≡ f → r ≡ b || o → b ≡ beyond z → z ≡ sumAt q at from a → o ≡ o′
-    → r ≡ beyond (sumAt q at from f) || o′
-flag at from q e r b h o = rw (r, b, h, e, o)
+flagged : (at from : ℕ) (q : ℤ) {a f : List ℤ} {z : ℤ} {o b : Bool} → a ≡ f → o ≡ false → z ≡ sumAt q at from a → b ≡ beyond z
+    → beyond (sumAt q at from f) || o ≡ b
+flagged at from q {a} {f} {z} e o h b = ap₂ _||_ (ap (λ (l : List ℤ). beyond (sumAt q at from l)) (sym e) ∙ ap beyond (sym h) ∙ sym b) o ∙ or-false _
 
-loop-again : tie.Need-loop-again Inv-loop μ-loop
-unfolding addF addO
-loop-again c =
-    let m = c .before .before .before in
-    let l = m .before .before .before .before .loop in
-    let s = m .before .before .before .before .before in
-    let to = s .args .to + l .k * s .args .stride in
-    let from = s .args .from + l .k * s .args .stride in
-    let q = toZ w64 (ofZ w64 (s .args .q)) in (
-      omega arith,
-      length-set (l .a) _ _ ∙ l .inv .1,
-      turn to from q (l .inv .2) (toZ-ofZ {w = w32} (record { sfits = c .before .before .stored .ok }) ∙ c .before .before .stored .ensures) (value m)
-          ∙ sym (ap (addF (s .args .a .now) (s .args .to) (s .args .from) (s .args .stride) q) (add-one (l .k))),
-      flag to from q (l .inv .2) (c .either .ensures) (c .before .beyond .ensures) (value m) (l .inv .3)
-          ∙ sym (ap (addO (s .args .a .now) (s .args .to) (s .args .from) (s .args .stride) q) (add-one (l .k))),
-    )
+module _ (c : tie.After-beyond Inv-loop μ-loop) where
+  -- whether the value of this turn is beyond M, or one before it was
+  turn-flag : let i = c .before .before .before .before in let s = i .before .before in
+      addO (s .args .a .now) (s .args .to) (s .args .from) (s .args .stride) (toZ w64 (ofZ w64 (s .args .q))) (suc (i .before .loop .k)) ≡ c .beyond .result
+  unfolding addO
+  turn-flag =
+      let i = c .before .before .before .before in
+      let s = i .before .before in
+      let l = i .before .loop in
+      flagged (s .args .to + l .k * s .args .stride) (s .args .from + l .k * s .args .stride) (toZ w64 (ofZ w64 (s .args .q))) (l .inv .2) (l .inv .3)
+      (value (c .before)) (c .beyond .ensures)
 
 same-length : tie.Need-same-length Inv-loop μ-loop
 same-length c = search needs
 
 returns : tie.Need-returns Inv-loop μ-loop
 returns c =
+    let i = c .before .before .before .before .before in
+    let s = i .before .before in
+    let k = suc (i .before .loop .k) in
+    let all : s .args .count - k + k ≡ s .args .count = omega (arith, i .loop-test .taken) in
+    record {
+      flag = sym (rw all at (addO-stays (s .args .a .now) (s .args .to) (s .args .from) (s .args .stride) (s .args .q) k (s .args .count - k)
+          (rw (toZ-ofZ (s .fits .q)) at (turn-flag (c .before)) ∙ c .if1 .taken)));
+      list = λ e. absurd (true-not-false refl e);
+    }
+
+stored-requires : tie.Need-stored-requires Inv-loop μ-loop
+stored-requires c κs = search needs
+
+mul-s : tie.Need-mul-s Inv-loop μ-loop
+mul-s c = let h = to-in (c .before .before .before .before .before .before) in omega arith
+
+slice-set-from-s : tie.Need-slice-set-from-s Inv-loop μ-loop
+slice-set-from-s c = let h = to-in (c .before .before .before .before .before .before) in omega arith
+
+add-k : tie.Need-add-k Inv-loop μ-loop
+add-k c = omega (arith, c .before .before .before .before .before .before .loop-test .taken)
+
+loop-less : tie.Need-loop-less Inv-loop μ-loop
+loop-less c = omega (arith, c .before .before .before .before .before .before .loop-test .taken)
+
+loop-again : tie.Need-loop-again Inv-loop μ-loop
+unfolding addF
+loop-again c =
+    let b = c .before .before in
+    let i = b .before .before .before .before in
+    let l = i .before .loop in
+    let s = i .before .before in
+    let to = s .args .to + l .k * s .args .stride in
+    let from = s .args .from + l .k * s .args .stride in
+    let q = toZ w64 (ofZ w64 (s .args .q)) in (
+      omega (arith, i .loop-test .taken),
+      length-set (l .a) _ _ ∙ l .inv .1,
+      turn to from q (l .inv .2) (toZ-ofZ {w = w32} (record { sfits = c .stored .ok }) ∙ c .stored .ensures) (value (b .before))
+          ∙ sym (ap (addF (s .args .a .now) (s .args .to) (s .args .from) (s .args .stride) q) (add-one (l .k))),
+      ap (addO (s .args .a .now) (s .args .to) (s .args .from) (s .args .stride) q) (add-one (l .k)) ∙ turn-flag b ∙ c .before .if1 .left,
+    )
+
+same-length-2 : tie.Need-same-length-2 Inv-loop μ-loop
+same-length-2 c = search needs
+
+returns-2 : tie.Need-returns-2 Inv-loop μ-loop
+returns-2 c =
     let s = c .before .before in
-    let e : c .before .loop .k ≡ s .args .count = omega arith in
-    (rw (toZ-ofZ (s .fits .q), e) at (c .before .loop .inv .2), rw (toZ-ofZ (s .fits .q), e) at (c .before .loop .inv .3))
+    let e : c .before .loop .k ≡ s .args .count = omega (arith, c .loop-test .left) in
+    record {
+      flag = sym (rw (toZ-ofZ (s .fits .q), e) at (c .before .loop .inv .3));
+      list = λ _. rw (toZ-ofZ (s .fits .q), e) at (c .before .loop .inv .2);
+    }
 
 pub add-spec : {M : Type 1} → statement M
 add-spec =
@@ -147,13 +193,14 @@ add-spec =
     mul-x
     slice-copy-out-x
     mix-requires
-    stored-requires
     beyond-requires
+    same-length
+    returns
+    stored-requires
     mul-s
     slice-set-from-s
-    either-requires
     add-k
     loop-less
     loop-again
-    same-length
-    returns)
+    same-length-2
+    returns-2)

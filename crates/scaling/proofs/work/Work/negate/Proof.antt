@@ -2,7 +2,7 @@
 use mathlib.Core.Path.{refl}
 use native.Mathlib.Omega.{arith}
 use borrow.Author.Needs.{needs}
-use Rattle.scaling.proofs.State.{Long, t-in, v-in, w-in, row-start}
+use Rattle.scaling.proofs.State.{Long, fewer, t-in, v-in, w-in, row-start}
 use Rattle.scaling.proofs.Steps.{negate-same}
 use Rattle.scaling.proofs.work.Work.negate.Statement.{statement}
 use Rattle.scaling.proofs.work.Work.negate.Tie as tie
@@ -14,13 +14,13 @@ negate-t-requires : tie.Need-negate-t-requires
 negate-t-requires c κs = let s = c .before in t-in (s .pre .0) (long s) (s .args .i) (s .pre .1 .i-in)
 
 negate-v-requires : tie.Need-negate-v-requires
-negate-v-requires c κs = let s = c .before .before .before in v-in (s .pre .0) (long s) (s .args .i) (s .pre .1 .i-in)
+negate-v-requires c κs = let s = c .before .before .before in fewer (v-in (s .pre .0) (long s) (s .args .i) (s .pre .1 .i-in)) (omega arith)
 
 mul-negate-v : tie.Need-mul-negate-v
 mul-negate-v c = let s = c .before .before .before .before .before in let h = row-start (s .pre .0) (s .args .i) (s .pre .1 .i-in) in omega arith
 
 negate-v-requires-2 : tie.Need-negate-v-requires-2
-negate-v-requires-2 c κs = let s = c .before .before .before .before .before in w-in (s .pre .0) (long s) (s .args .i) (s .pre .1 .i-in)
+negate-v-requires-2 c κs = let s = c .before .before .before .before .before in fewer (w-in (s .pre .0) (long s) (s .args .i) (s .pre .1 .i-in)) (omega arith)
 
 add-self : tie.Need-add-self
 add-self c = search needs

@@ -20,7 +20,7 @@ turn-t-requires c κs =
 turn-v-requires : tie.Need-turn-v-requires
 turn-v-requires c κs =
     let s = c .before .before .before .before .before .before .before .before in let p = s .pre .1 in
-    (p .0, p .1, v-room (s .pre .0) (long s), v-room (s .pre .0) (long s))
+    (p .0, p .1, omega (arith, v-room (s .pre .0) (long s)), omega (arith, v-room (s .pre .0) (long s)))
 
 mul-turn-v : tie.Need-mul-turn-v
 mul-turn-v c =
@@ -37,7 +37,7 @@ turn-v-requires-2 c κs =
     let s = c .before .before .before .before .before .before .before .before .before .before .before in
     let p = s .pre .1 in (
       omega (arith, cell {j = 0} {n = s .args .n} {k = 0} {m = s .args .n} (p .0) (p .0)),
-      mul-le-mul (p .1) (le-refl (s .args .n)),
+      omega (arith, mul-le-mul {n₁ = s .args .a} {m₁ = s .args .n} (p .1) (le-refl (s .args .n))),
       omega (arith, w-room (s .pre .0) (long s)),
       omega (arith, w-room (s .pre .0) (long s)),
     )

@@ -2,7 +2,7 @@
 use mathlib.Core.Path.{refl}
 use native.Mathlib.Omega.{arith}
 use borrow.Author.Needs.{needs}
-use Rattle.scaling.proofs.State.{Long, t-in, v-in, w-in, row-start}
+use Rattle.scaling.proofs.State.{Long, fewer, t-in, v-in, w-in, row-start}
 use Rattle.scaling.proofs.Steps.{swap-same}
 use Rattle.scaling.proofs.work.Work.swap.Statement.{statement}
 use Rattle.scaling.proofs.work.Work.swap.Tie as tie
@@ -18,7 +18,7 @@ swap-t-requires c κs =
 swap-v-requires : tie.Need-swap-v-requires
 swap-v-requires c κs =
     let s = c .before .before .before in let f = s .pre .0 in let p = s .pre .1 in
-    (v-in f (long s) (s .args .i) (p .i-in), v-in f (long s) (s .args .j) (p .j-in))
+    (fewer (v-in f (long s) (s .args .i) (p .i-in)) (omega arith), fewer (v-in f (long s) (s .args .j) (p .j-in)) (omega arith))
 
 mul-swap-v : tie.Need-mul-swap-v
 mul-swap-v c = let s = c .before .before .before .before .before in let h = row-start (s .pre .0) (s .args .i) (s .pre .1 .i-in) in omega arith
@@ -29,7 +29,7 @@ mul-swap-v-2 c = let s = c .before .before .before .before .before in let h = ro
 swap-v-requires-2 : tie.Need-swap-v-requires-2
 swap-v-requires-2 c κs =
     let s = c .before .before .before .before .before in let f = s .pre .0 in let p = s .pre .1 in
-    (w-in f (long s) (s .args .i) (p .i-in), w-in f (long s) (s .args .j) (p .j-in))
+    (fewer (w-in f (long s) (s .args .i) (p .i-in)) (omega arith), fewer (w-in f (long s) (s .args .j) (p .j-in)) (omega arith))
 
 add-self : tie.Need-add-self
 add-self c = search needs
