@@ -22,7 +22,7 @@ use Rattle.theory.proofs.Accepted.{sizes-passed, build-accepted}
 use Rattle.theory.proofs.Refusals.{build-not-0}
 use Rattle.theory.proofs.Grid.{length-grid}
 use Rattle.scaling.specs.declared.BuildAnswer.{BuildAnswer}
-use Rattle.scaling.specs.Checks.{given}
+use Rattle.checks.specs.Checks.{given}
 use Rattle.scaling.specs.Answers as scaling
 use Rattle.bench.specs.Answers.{Builds}
 use Rattle.bench.proofs.Verdicts.{bool-same, verdicts-agree, first-passed}

@@ -16,8 +16,8 @@ use Rattle.rules.specs.Problem.{Problem}
 use Rattle.rules.specs.Calls.{problemFits, formulaFits}
 use Rattle.rules.specs.Bench.{problemOf}
 use Rattle.rules.specs.Bench as bench
-use Rattle.scaling.specs.Checks.{given}
-use Rattle.scaling.specs.Answers.{formulaOf}
+use Rattle.checks.specs.Checks.{given}
+use Rattle.formulas.specs.Answers.{formulaOf}
 use Rattle.theory.proofs.Accepted.{Sizes, lengths-passed, formula-lengths}
 use Rattle.bench.specs.Words.{readable, Decoded}
 use Rattle.bench.proofs.Bytes.{length-longs}

@@ -23,10 +23,10 @@ use Rattle.theory.proofs.Sizes.{room-for-exponents}
 use Rattle.theory.proofs.Accepted.{sizes-passed, translate-accepted}
 use Rattle.theory.proofs.Refusals.{translate-not-0}
 use Rattle.theory.proofs.Grid.{length-grid}
-use Rattle.scaling.specs.declared.TranslateAnswer.{TranslateAnswer}
-use Rattle.scaling.specs.Checks.{given}
-use Rattle.scaling.specs.Answers as scaling
-use Rattle.scaling.specs.Answers.{formulaOf}
+use Rattle.formulas.specs.declared.TranslateAnswer.{TranslateAnswer}
+use Rattle.checks.specs.Checks.{given}
+use Rattle.formulas.specs.Answers as formulas
+use Rattle.formulas.specs.Answers.{formulaOf}
 use Rattle.bench.specs.Answers.{Translates}
 use Rattle.bench.proofs.Verdicts.{bool-same, verdicts-agree, first-passed}
 use Rattle.bench.proofs.Inputs.{Reads, problem-heard, problem-read, formula-heard, formula-read}
@@ -44,7 +44,7 @@ benchTranslated P f kept translated x = record {
   exponents = lentAfter x (bytesOf (translatedExponents P f)) translated;
 }
 
--- one call: what was heard of the bytes, with the count of terms, what was handed on for the outputs, and what scaling::translate answered
+-- one call: what was heard of the bytes, with the count of terms, what was handed on for the outputs, and what formulas::translate answered
 pub record Called (m n : ℕ) (matrix moduli cs es kept translated : List ℕ) (a p c e x y : List ℤ) (count : ℕ) (r : TranslateAnswer)
     (x₁ y₁ : List ℤ) : Type 0 where
   pub reads-matrix : Reads matrix 128 a
@@ -54,7 +54,7 @@ pub record Called (m n : ℕ) (matrix moduli cs es kept translated : List ℕ) (
   pub counts : count ≡ length c
   pub lent-kept : Lent kept 64 x
   pub lent-translated : Lent translated 1024 y
-  pub translates : scaling.Translates (translateOf (given m n a p) (formulaOf c e) x y) r x₁ y₁
+  pub translates : formulas.Translates (translateOf (given m n a p) (formulaOf c e) x y) r x₁ y₁
 
 -- what a taken call has to write, and that with it written the bytes' translation is met
 pub record Taken (m n : ℕ) (matrix moduli cs es kept translated : List ℕ) (count : ℕ) (r : TranslateAnswer) (x₁ y₁ : List ℤ) : Type 0 where
@@ -135,7 +135,7 @@ module _ {m n : ℕ} {matrix moduli cs es kept out : List ℕ} {a p c e x y : Li
   unfolding translateOf benchTranslateOf
   refusal h = go (translateVerdict P′ f′ inputs′ outputs′) (K .translates) verdict-same
     where
-      go : (u : Verdict) → scaling.Translates (translatedTo P′ f′ x y u) r x₁ y₁ → u ≡ benchTranslateVerdict m n matrix moduli cs es kept out
+      go : (u : Verdict) → formulas.Translates (translatedTo P′ f′ x y u) r x₁ y₁ → u ≡ benchTranslateVerdict m n matrix moduli cs es kept out
           → Translates (benchTranslated P f kept out (benchTranslateVerdict m n matrix moduli cs es kept out)) r kept out
       go taken B e = absurd (h (B .number))
       go (refused number place) B e = rw (← e) (record { number = B .number; place = B .place; d = B .d; kept = refl; translated = refl })
@@ -144,12 +144,12 @@ module _ {m n : ℕ} {matrix moduli cs es kept out : List ℕ} {a p c e x y : Li
   unfolding translateOf translateVerdict
   verdict-taken h = go (translateVerdict P′ f′ inputs′ outputs′) (K .translates) refl
     where
-      go : (u : Verdict) → scaling.Translates (translatedTo P′ f′ x y u) r x₁ y₁ → translateVerdict P′ f′ inputs′ outputs′ ≡ u → u ≡ taken
+      go : (u : Verdict) → formulas.Translates (translatedTo P′ f′ x y u) r x₁ y₁ → translateVerdict P′ f′ inputs′ outputs′ ≡ u → u ≡ taken
       go taken B e = refl
       go (refused number place) B e =
           absurd (translate-not-0 P′ inputs′ outputs′ f′ number place e (sym (B .number) ∙ h))
 
-  taken-writes : scaling.Translates (translatedTo P f x y taken) r x₁ y₁ → count ≡ terms f → WellFormed P → WellFormedFormula P f
+  taken-writes : formulas.Translates (translatedTo P f x y taken) r x₁ y₁ → count ≡ terms f → WellFormed P → WellFormedFormula P f
       → outputs ≡ true → benchTranslateVerdict m n matrix moduli cs es kept out ≡ taken → Taken m n matrix moduli cs es kept out count r x₁ y₁
   unfolding benchTranslateOf translatedExponents
   taken-writes B k G F o e =
@@ -171,7 +171,7 @@ module _ {m n : ℕ} {matrix moduli cs es kept out : List ℕ} {a p c e x y : Li
       let s = all-heard (t .0) (t .1) .0 in
       let g = ap₂ (λ (Q : Problem) (g : Formula). translateVerdict Q g (problemFits Q && formulaFits Q g) outputs′) (s .0) (s .1) in
       let A = translate-accepted P f outputs′ (sym g ∙ v) in
-      let B = subst (λ (u : Verdict). scaling.Translates (translatedTo P′ f′ x y u) r x₁ y₁) v (K .translates) in
-      let B₁ = subst (λ (Q : Problem). scaling.Translates (translatedTo Q f′ x y taken) r x₁ y₁) (s .0) B in
-      let B₂ = subst (λ (g : Formula). scaling.Translates (translatedTo P g x y taken) r x₁ y₁) (s .1) B₁ in
+      let B = subst (λ (u : Verdict). formulas.Translates (translatedTo P′ f′ x y u) r x₁ y₁) v (K .translates) in
+      let B₁ = subst (λ (Q : Problem). formulas.Translates (translatedTo Q f′ x y taken) r x₁ y₁) (s .0) B in
+      let B₂ = subst (λ (g : Formula). formulas.Translates (translatedTo P g x y taken) r x₁ y₁) (s .1) B₁ in
       taken-writes B₂ (K .counts ∙ ap terms (s .1)) (A .0) (A .1) (sym outputs-same ∙ t .2) (sym verdict-same ∙ v)

@@ -5,7 +5,7 @@ use Prim.Native.Nat.{ℕ}
 use Rattle.rules.specs.Bench.{BenchBuilt, BenchTranslated}
 use Rattle.rules.specs.Gauges as rules
 use Rattle.scaling.specs.declared.BuildAnswer.{BuildAnswer}
-use Rattle.scaling.specs.declared.TranslateAnswer.{TranslateAnswer}
+use Rattle.formulas.specs.declared.TranslateAnswer.{TranslateAnswer}
 use Rattle.bench.specs.declared.GaugeAnswer.{GaugeAnswer}
 
 pub record Builds (b : BenchBuilt) (r : BuildAnswer) (h₁ v₁ w₁ : List ℕ) : Type 0 where

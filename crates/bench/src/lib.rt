@@ -2,11 +2,11 @@
 // numbers as they are.
 ghost use Rattle.rules.specs.Bench.{benchBuildOf, benchTranslateOf};
 ghost use Rattle.rules.specs.Gauges.{lentReadings, gaugeOf, gaugeAnswer};
-ghost use Rattle.scaling.specs.Checks.{given};
+ghost use Rattle.checks.specs.Checks.{given};
 ghost use Rattle.bench.specs.Answers.{Builds, Translates, Gauges};
+use formulas::TranslateAnswer;
 use gauges::Gauged;
 use scaling::BuildAnswer;
-use scaling::TranslateAnswer;
 
 mod readings;
 mod words;
@@ -83,7 +83,7 @@ pub extern "C" fn glaukemis_translate(
     let mut y: [i32; 1024] = [0; 1024];
     let i = room(kept, 64);
     let j = room(translated, 1024);
-    let r = scaling::translate(
+    let r = formulas::translate(
         m,
         n,
         &a[..entries],

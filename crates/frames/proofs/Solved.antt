@@ -16,11 +16,12 @@ use Rattle.rules.specs.Stages.{run}
 use Rattle.rules.specs.Formulas.{d, terms}
 use Rattle.rules.specs.Calls.{Verdict, taken, refused, translateVerdict, buildVerdict, problemFits, formulaFits, contentsH, contentsV, contentsW, translatedExponents, Built, built, buildOf, Translated, translatedTo, translateOf}
 use Rattle.rules.specs.Frames.{rowLines, termLines, sizesLine, printed, answered, refusalLine}
-use Rattle.scaling.specs.Answers.{Builds, Translates}
+use Rattle.scaling.specs.Answers.{Builds}
+use Rattle.formulas.specs.Answers.{Translates}
 use Rattle.theory.proofs.Grid.{length-grid}
 use Rattle.theory.proofs.Refusals.{build-taken, translate-not-0}
 use Rattle.scaling.specs.declared.BuildAnswer.{BuildAnswer}
-use Rattle.scaling.specs.declared.TranslateAnswer.{TranslateAnswer}
+use Rattle.formulas.specs.declared.TranslateAnswer.{TranslateAnswer}
 use Rattle.frames.specs.declared.read.Input.{Input}
 use Rattle.frames.specs.declared.solve.Sizes.{Sizes}
 use Rattle.frames.specs.Input.{Sized, problemIn, formulaIn}

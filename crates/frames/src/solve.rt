@@ -109,7 +109,7 @@ pub fn solve(x: Input) -> Text
     let exponents = x.exponents;
     let mut kept = [0i32; 64];
     let mut translated = [0i32; 1024];
-    let t = scaling::translate(
+    let t = formulas::translate(
         m as u32,
         n as u32,
         &matrix[..m * n],

@@ -21,15 +21,16 @@ use Rattle.rules.specs.Calls.{Check, Verdict, taken, refused, verdict, unless, 
 use Rattle.rules.specs.Calls.{buildVerdict, buildOf, built, contentsV}
 use Rattle.rules.specs.Gauges.{Readings, reading, ownChecks, gaugeChecks, nought, refusal, gaugedBy, gaugeOf}
 use Rattle.theory.proofs.Accepted.{build-accepted}
-use Rattle.theory.proofs.Refusals.{never-given, build-not-0}
+use Rattle.theory.proofs.Refusals.{goes-on, stays, never-given}
 use Rattle.theory.proofs.Grid.{table-filled}
 use Rattle.theory.proofs.Sizes.{N-le-24}
 use Rattle.theory.proofs.Run.{run-right}
 use Rattle.theory.proofs.Gauges.{carries-nought, own-same}
 use Rattle.scaling.specs.declared.BuildAnswer.{BuildAnswer}
-use Rattle.scaling.specs.Checks.{Says, takes, refuses}
+use Rattle.checks.specs.Checks.{Says, takes, refuses}
 use Rattle.scaling.specs.Answers.{Builds}
-use Rattle.scaling.proofs.Verdicts.{goes-on, stays, says-taken, says-refused}
+use Rattle.scaling.proofs.Called.{Called, build-says, build-taken, build-well-formed}
+use Rattle.checks.proofs.Verdicts.{says-taken, says-refused}
 use Rattle.gauges.specs.Held.{column, Table}
 
 -- ---- two verdicts: of a build with room enough, and of a call that also asks for the count; `own` are its later checks
@@ -77,25 +78,9 @@ ofThis P = ofBuild (sizesInRange (P .m) (P .n)) (problemFits P) (rest P)
 abbrev own : Problem → Readings → (g : ℕ) → List Check
 own P R g = ownChecks (P .n) (d P (run P)) (group P (run P) g) (reading R) g
 
-pub record Called (P : Problem) (h v w : List ℤ) (r : BuildAnswer) (h₁ v₁ w₁ : List ℤ) : Type 0 where
-  pub builds : Builds (buildOf P h v w) r h₁ v₁ w₁
-  pub room : leb roomH (length h) && leb roomV (length v) && leb roomW (length w) ≡ true
-
 module _ {P : Problem} {h v w : List ℤ} {r : BuildAnswer} {h₁ v₁ w₁ : List ℤ} (K : Called P h v w r h₁ v₁ w₁) where
-  builds : Builds (built P h v w (ofThis P)) r h₁ v₁ w₁
-  unfolding buildOf buildVerdict
-  builds = subst (λ (b : Bool). Builds (built P h v w (buildVerdict P (problemFits P) b)) r h₁ v₁ w₁) (K .room) (K .builds)
-
-  never-0 : (k p : ℕ) → ofThis P ≡ refused k p → k ≢ 0
-  unfolding buildVerdict
-  never-0 k p e = build-not-0 P (problemFits P) true k p e
-
   says : Says (r .number) (r .place) (ofThis P)
-  says = go (ofThis P) builds never-0
-    where
-      go : (x : Verdict) → Builds (built P h v w x) r h₁ v₁ w₁ → ((k p : ℕ) → x ≡ refused k p → k ≢ 0) → Says (r .number) (r .place) x
-      go taken B not-0 = takes (B .number) (B .place)
-      go (refused number place) B not-0 = rw (← B .number, ← B .place) (refuses (λ e. not-0 number place refl (sym (B .number) ∙ e)))
+  says = build-says K
 
   module _ (R : Readings) (g : ℕ) where
     decided : {x : Verdict} → verdict (gaugeChecks P R g) ≡ x → gaugeOf P R g ≡ gaugedBy (P .n) (group P (run P) g) (reading R) x
@@ -133,11 +118,10 @@ module _ {P : Problem} {h v w : List ℤ} {r : BuildAnswer} {h₁ v₁ w₁ : Li
   -- ---- the groups in V of a build that was taken; cols is document 01's N
   module _ (e : r .number ≡ 0) where
     B : Builds (built P h v w taken) r h₁ v₁ w₁
-    B = subst (λ (x : Verdict). Builds (built P h v w x) r h₁ v₁ w₁) (says-taken says e) builds
+    B = build-taken K e
 
     pub well-formed : WellFormed P
-    unfolding buildVerdict
-    well-formed = build-accepted P true (says-taken says e) .0
+    well-formed = build-well-formed K e
 
     abbrev cols : ℕ
     cols = P .n + r .moduli

@@ -3,7 +3,7 @@ ghost use mathlib.Core.Path.{_≡_};
 ghost use Prim.Native.Nat.{_≤_};
 ghost use Rattle.rules.specs.Calls.{verdict};
 ghost use Rattle.rules.specs.Gauges.{read, nought, refusal, ownChecks, gaugedBy, gaugeOf};
-ghost use Rattle.scaling.specs.Checks.{given};
+ghost use Rattle.checks.specs.Checks.{given};
 ghost use Rattle.gauges.specs.Held.{column, Table, told, setOf};
 
 mod values;

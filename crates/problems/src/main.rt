@@ -1,7 +1,7 @@
 // Runs document 01's known problems, in its order, and prints what build, weigh and translate answer.
+use formulas::translate;
+use formulas::weigh;
 use scaling::build;
-use scaling::translate;
-use scaling::weigh;
 
 fn word(text: &[u8]) {
     io::write_all(1, text);

@@ -79,21 +79,22 @@ termsFault P f (found t) = record { number = termNumber P (term P f t); fault = 
 abbrev pub termsCheck : Problem → Run → Formula → Check
 termsCheck P u f = termsFault P f (first (λ t. termRefused P u (term P f t)) 0 (terms f))
 
+-- ---- the lists of checks
+abbrev pub checksTo5 : Problem → (inputs outputs : Bool) → List Check
+checksTo5 P inputs outputs = sizesCheck P ∷ inputsCheck inputs ∷ outputsCheck outputs ∷ moduliCheck P ∷ entriesCheck P ∷ []
+
+abbrev pub checksTo6 : Problem → (exponents : List ℤ) → (inputs outputs : Bool) → List Check
+checksTo6 P es inputs outputs = checksTo5 P inputs outputs ++ exponentsCheck es ∷ []
+
 -- "The build gives 1 to 5 and 7; weights 1 to 6; translation 1 to 9."
 unfoldable pub buildVerdict : Problem → (inputs outputs : Bool) → Verdict
-buildVerdict P inputs outputs =
-    verdict (sizesCheck P ∷ inputsCheck inputs ∷ outputsCheck outputs ∷ moduliCheck P ∷ entriesCheck P ∷ rangeCheck (run P) ∷ [])
+buildVerdict P inputs outputs = verdict (checksTo5 P inputs outputs ++ rangeCheck (run P) ∷ [])
 
 unfoldable pub weighVerdict : Problem → (exponents : List ℤ) → (inputs outputs : Bool) → Verdict
-weighVerdict P es inputs outputs =
-    verdict (sizesCheck P ∷ inputsCheck inputs ∷ outputsCheck outputs ∷ moduliCheck P ∷ entriesCheck P ∷ exponentsCheck es ∷ [])
+weighVerdict P es inputs outputs = verdict (checksTo6 P es inputs outputs)
 
 unfoldable pub translateVerdict : Problem → Formula → (inputs outputs : Bool) → Verdict
-translateVerdict P f inputs outputs =
-    verdict (
-    sizesCheck P ∷ inputsCheck inputs ∷ outputsCheck outputs ∷ moduliCheck P ∷ entriesCheck P
-    ∷ exponentsCheck (f .exponents) ∷ rangeCheck (run P) ∷ termsCheck P (run P) f ∷ []
-    )
+translateVerdict P f inputs outputs = verdict (checksTo6 P (f .exponents) inputs outputs ++ rangeCheck (run P) ∷ termsCheck P (run P) f ∷ [])
 
 -- ---- lengths: "matrix m·n, moduli m, coefficients one and exponents n per term; more than 64 terms"
 abbrev pub problemFits : Problem → Bool

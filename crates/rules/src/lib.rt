@@ -1,1 +1,1 @@
-// Document 01 as definitions (specs/), and the starred problems proved of them (proofs/Starred.antt). There is no function.
+// Document 01 and the orders as definitions (specs/), and what is computed of them: the starred problems (proofs/Starred.antt), and examples of each order. There is no function.

@@ -11,36 +11,34 @@ use borrow.Author.Tests.{leb-true}
 use Rattle.rules.specs.Limits.{roomH, roomV, roomW}
 use Rattle.rules.specs.Problem.{Problem, WellFormed}
 use Rattle.rules.specs.Stages.{run}
-use Rattle.rules.specs.Calls.{Check, verdict, rangeCheck, problemFits, buildVerdict, buildOf, built}
+use Rattle.rules.specs.Calls.{verdict, rangeCheck, problemFits, buildVerdict, buildOf, built}
 use Rattle.whole.proofs.Tests.{and-both}
+use Rattle.checks.specs.declared.Refusal.{Refusal}
+use Rattle.checks.specs.Checks.{given, TellsTo5}
+use Rattle.checks.specs.Moduli.{problemOf}
+use Rattle.checks.proofs.Verdicts.{Passed, to5, problem-refused, problem-passed, past-5}
 use Rattle.scaling.specs.declared.BuildAnswer.{BuildAnswer}
-use Rattle.scaling.specs.Problem.{problemOf}
-use Rattle.scaling.specs.Checks.{Says, given, problemChecks}
 use Rattle.scaling.specs.Answers.{Builds, RoomToBuild}
-use Rattle.scaling.proofs.Verdicts.{goes-on, stays, says-taken, says-refused, Passed, problem-passed}
 
 -- the outputs' lengths, as the code takes them together
 abbrev pub roomy : (h v w : List ℤ) → Bool
 roomy h v w = leb roomH (length h) && (leb roomV (length v) && leb roomW (length w))
 
 -- what the code knows once the checks have answered
-pub record Checked (m n : ℕ) (matrix moduli h v w : List ℤ) (outputs : Bool) (number place : ℕ) : Type 0 where
+pub record Checked (m n : ℕ) (matrix moduli h v w : List ℤ) (outputs : Bool) (r : Refusal) : Type 0 where
   pub room : outputs ≡ roomy h v w
-  pub says : Says number place (verdict (problemChecks (given m n matrix moduli) (problemFits (given m n matrix moduli) && true) outputs))
+  pub tells : TellsTo5 m n matrix moduli true outputs r
 
-module _ {m n : ℕ} {matrix moduli h v w : List ℤ} {outputs : Bool} {number place : ℕ} (k : Checked m n matrix moduli h v w outputs number place) where
+module _ {m n : ℕ} {matrix moduli h v w : List ℤ} {outputs : Bool} {c : Refusal} (k : Checked m n matrix moduli h v w outputs c) where
   abbrev P : Problem
   P = given m n matrix moduli
 
-  abbrev checks : List Check
-  checks = problemChecks P (problemFits P && true) outputs
-
-  build-is : buildOf P h v w ≡ built P h v w (verdict (checks ++ rangeCheck (run P) ∷ []))
+  build-is : buildOf P h v w ≡ built P h v w (verdict (to5 m n matrix moduli true outputs ++ rangeCheck (run P) ∷ []))
   unfolding buildOf buildVerdict
   build-is = rw (and-true (problemFits P), k .room, and-assoc (leb roomH (length h)) (leb roomV (length v)) (leb roomW (length w)))
 
-  pub build-refused : number ≢ 0 → Builds (buildOf P h v w) (record { number = number; place = place; rank = 0; moduli = 0; steps = 0 }) h v w
-  build-refused d = rw (build-is, stays checks (rangeCheck (run P) ∷ []) number place (says-refused (k .says) d)) (record {
+  pub build-refused : c .number ≢ 0 → Builds (buildOf P h v w) (record { number = c .number; place = c .place; rank = 0; moduli = 0; steps = 0 }) h v w
+  build-refused d = rw (build-is, problem-refused (k .tells) d (rangeCheck (run P) ∷ [])) (record {
     number = refl;
     place = refl;
     rank = refl;
@@ -51,9 +49,9 @@ module _ {m n : ℕ} {matrix moduli h v w : List ℤ} {outputs : Bool} {number p
     w = refl;
   })
 
-  module _ (e : number ≡ 0) where
+  module _ (e : c .number ≡ 0) where
     passed : Passed m n matrix moduli true outputs
-    passed = problem-passed m n matrix moduli true outputs (says-taken (k .says) e)
+    passed = problem-passed (k .tells) e
 
     pub well-formed : WellFormed (problemOf n matrix moduli)
     well-formed = passed .wellFormed
@@ -67,4 +65,4 @@ module _ {m n : ℕ} {matrix moduli h v w : List ℤ} {outputs : Bool} {number p
     pub build-passed : {r : BuildAnswer} {h₁ v₁ w₁ : List ℤ}
         → Builds (built (problemOf n matrix moduli) h v w (verdict (rangeCheck (run (problemOf n matrix moduli)) ∷ []))) r h₁ v₁ w₁
         → Builds (buildOf P h v w) r h₁ v₁ w₁
-    build-passed b = rw (build-is, goes-on checks (rangeCheck (run P) ∷ []) (says-taken (k .says) e), passed .same) b
+    build-passed b = rw (build-is, past-5 (k .tells) e (rangeCheck (run P) ∷ []), passed .same) b

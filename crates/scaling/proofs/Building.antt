@@ -21,7 +21,7 @@ use Rattle.theory.proofs.Grid.{table, grid-cong, grid-of-table}
 use Rattle.scaling.specs.declared.run.Outcome.{Outcome}
 use Rattle.scaling.specs.Join.{stateOf, tableFor, heightFor, entriesFor}
 use Rattle.scaling.specs.Problem.{Ran}
-use Rattle.scaling.specs.Answers.{Builds, Solved}
+use Rattle.scaling.specs.Answers.{Builds}
 use Rattle.scaling.proofs.MatrixC.{area, square}
 use Rattle.scaling.proofs.State.{Long, state-get, state-getW}
 
@@ -64,18 +64,6 @@ module _ {P : Problem} {r : Outcome} (g : WellFormed P) (d : Ran P r) where
 
     entry-of-W : (i c : ℕ) → i < N P → c < N P → W (run P) i c ≡ nth (r .work .w) (i * N P + c)
     entry-of-W i c a b = rw (← run-is, add-comm (i * N P) c) (state-getW (P .m) (N P) (r .work) i c a b)
-
-    -- what a translation needs of the run
-    pub solved : length (r .work .w) ≡ 576 → Solved P (r .work .w) (r .rank)
-    solved l = record {
-      taken = sym (d .tracks .flag) ∙ o;
-      rank = d .rank o;
-      upto = rank-few o;
-      groups = omega (arith, d .rank o, d-le-n P (g .moduli) (run-right P));
-      length = l;
-      small = d .tracks .fine o .w;
-      entries = λ i c a b. sym (entry-of-W i c a b);
-    }
 
     -- ---- the contents; x is the number of columns, as the code has it
     module _ {x : ℕ} (e : x ≡ N P) (long : Long (r .work)) where

@@ -1,6 +1,6 @@
 -- The proofs of the functions stand beside this file, in folders that mirror src/. The general modules, each standing on those above it:
 -- ---- the column steps
---     Values        single values: what fits, what is stored, what a test says, the floored quotient by signs
+--     Values        single values: what is stored, the floored quotient by signs
 --     Places        places in a flat list: which are apart, which are in it, where a turned entry stood
 --     Turns         what the lists of specs/Flat hold after their turns
 --     Picks         the lines of a flat list before and after a loop, and what an addition's flag says
@@ -33,38 +33,21 @@ pub mod Rowing
 pub mod RowScan
 pub mod AllRows
 pub mod ThirdStage
--- ---- the checks, and lists that are filled one entry after the other
---     Verdicts      the verdict of checks in two parts, and what passed checks say
+-- ---- lists that are filled
 --     Filling       writing one entry after the other into a lent list
-pub mod Verdicts
 pub mod Filling
 -- ---- the build
---     Listing       the rows with a modulus, one modulus after the other
 --     Diagonal      the identity, one entry of the diagonal after the other
 --     MatrixC       the entries of C as the code finds them, and bounds of a well-formed problem
 --     Starting      the start is the definition's
 --     Running       the run is the definition's
 --     Building      from the run to H, V and W as they are lent out, or refusal 7
 --     BuildCall     the call, from its checks on
-pub mod Listing
+--     Called        the call, as a later call makes it
 pub mod Diagonal
 pub mod MatrixC
 pub mod Starting
 pub mod Running
 pub mod Building
 pub mod BuildCall
--- ---- weights and translation
---     Sums          sums of products, and that their beginnings fit
---     Weighing      the weights
---     KAndV         k followed by v
---     WeighCall     the call that weighs, from its checks on
---     GridRows      grids, one row after the other
---     Translating   one term and all terms
---     TranslateCall the call that translates, from its checks on
-pub mod Sums
-pub mod Weighing
-pub mod KAndV
-pub mod WeighCall
-pub mod GridRows
-pub mod Translating
-pub mod TranslateCall
+pub mod Called

@@ -17,7 +17,8 @@ use Rattle.rules.specs.Steps.{plus, anyBeyond}
 use Rattle.theory.proofs.Range.{beyond-none}
 use Rattle.scaling.specs.Flat.{Within, keep, sumAt, addF, addO, swapF, negF, turnF}
 use Rattle.scaling.specs.Join.{Small, pick}
-use Rattle.scaling.proofs.Values.{not-beyond, kept}
+use Rattle.checks.proofs.Values.{not-beyond}
+use Rattle.scaling.proofs.Values.{kept}
 use Rattle.scaling.proofs.Places.{Layout, cell, turn-column, turn-row}
 use Rattle.scaling.proofs.Turns.{addF-kept, addF-reads, addF-made, negF-kept, negF-made, swapF-kept, swapF-first, swapF-second, turnF-made}
 

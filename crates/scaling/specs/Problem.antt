@@ -1,32 +1,16 @@
--- The problem that a call's inputs say, its matrix C as the code writes it, and what its run ends with.
+-- A problem's matrix C as the code writes it, and what its run ends with.
 use mathlib.Core.Path.{_≡_}
 use mathlib.Core.Bool.{false}
 use mathlib.Core.List.{List}
-use Prim.Native.Nat.{ℕ, suc, _+_, _*_, _/_, _%_, _<_, _≤_}
-use lib.ListN.{length, getD, set}
+use Prim.Native.Nat.{ℕ, _+_, _*_, _/_, _%_, _<_, _≤_}
+use lib.ListN.{length}
 use lib.IntN.{ℤ, pos}
 use Rattle.whole.specs.Lists.{nth}
 use Rattle.whole.specs.Matrix.{δ}
-use Rattle.rules.specs.Problem.{Problem, modulusRows, s, N, C}
+use Rattle.rules.specs.Problem.{Problem, s, N, C}
 use Rattle.rules.specs.Stages.{run}
-use Rattle.scaling.specs.declared.run.ModulusRows.{ModulusRows}
 use Rattle.scaling.specs.declared.run.Outcome.{Outcome}
 use Rattle.scaling.specs.Join.{Tracks}
-
--- there is a modulus for each row, so that the rows need not be counted apart
-abbrev pub problemOf : (n : ℕ) (matrix moduli : List ℤ) → Problem
-problemOf n matrix moduli = record { m = length moduli; n = n; matrix = matrix; moduli = moduli }
-
--- q lists the rows with a modulus
-pub record Lists (P : Problem) (q : ModulusRows) : Type 0 where
-  pub count : q .s ≡ s P
-  pub few : q .s ≤ 8
-  pub rows : (c : ℕ) → c < q .s → getD (q .rows) c 0 ≡ getD (modulusRows P) c 0
-
--- q with row i listed next
-pub record With (q : ModulusRows) (i : ℕ) (r : ModulusRows) : Type 0 where
-  pub rows : r .rows ≡ set (q .rows) (q .s) i
-  pub count : r .s ≡ suc (q .s)
 
 -- an entry of C
 pub record InC (P : Problem) (i c : ℕ) : Type 0 where

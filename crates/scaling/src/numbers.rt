@@ -5,8 +5,8 @@ ghost use lib.IntN.{natAbs, negℤ, _+ℤ_, _*ℤ_, pos};
 ghost use lib.Signed.{quotZ, ltZ};
 ghost use Rattle.whole.specs.Division.{floorZ};
 ghost use Rattle.rules.specs.Limits.{isZero};
-ghost use Rattle.rules.specs.Limits as limits;
 ghost use Rattle.scaling.specs.Flat.{keep};
+use checks::beyond;
 
 // x + q * y
 pub fn mix(x: i32, q: i64, y: i32) -> i64
@@ -14,17 +14,6 @@ pub fn mix(x: i32, q: i64, y: i32) -> i64
     ensures { λ r. ⌜ r ≡ x +ℤ q *ℤ y ⌝ }
 {
     x as i64 + q * (y as i64)
-}
-
-// Whether z is beyond M either way.
-pub fn beyond(z: i64) -> bool
-    ensures { λ r. ⌜ r ≡ limits.beyond z ⌝ }
-{
-    if z < -2147483647 {
-        true
-    } else {
-        2147483647 < z
-    }
 }
 
 // What is stored for z: z, or 0 where z is beyond M. So a loop needs to know nothing of the values that it meets.
@@ -45,12 +34,6 @@ pub fn minus(q: i64) -> i64
     ensures { λ r. ⌜ r ≡ negℤ q ⌝ }
 {
     -q
-}
-
-pub fn is_zero(x: i32) -> bool
-    ensures { λ r. ⌜ r ≡ isZero x ⌝ }
-{
-    x == 0
 }
 
 pub fn is_none(q: i64) -> bool

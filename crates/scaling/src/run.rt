@@ -5,45 +5,13 @@ ghost use lib.ListN.{length};
 ghost use Rattle.rules.specs.Problem.{s, N, C, columns, WellFormed};
 ghost use Rattle.rules.specs.Steps as steps;
 ghost use Rattle.scaling.specs.Join.{Same};
-ghost use Rattle.scaling.specs.Problem.{problemOf, Lists, InC, HoldsC, HoldsIdentity, Ran, With};
-use crate::numbers::is_zero;
+ghost use Rattle.checks.specs.Moduli.{problemOf, Lists};
+ghost use Rattle.scaling.specs.Problem.{InC, HoldsC, HoldsIdentity, Ran};
 use crate::numbers::opposite;
 use crate::work::Progress;
 use crate::work::Work;
-
-// The rows with a modulus, from the top row down, and their count s.
-pub struct ModulusRows {
-    pub rows: [usize; 8],
-    pub s: usize,
-}
-
-impl ModulusRows {
-    // Row i is listed next.
-    fn with(mut self, i: usize) -> ModulusRows
-        requires { ⌜ self .s < 8 ⌝ }
-        ensures { λ r. ⌜ With self i r ⌝ }
-    {
-        let s = self.s;
-        self.rows[s] = i;
-        self.s = s + 1;
-        self
-    }
-}
-
-pub fn modulus_rows(n: usize, matrix: &[i32], moduli: &[i32]) -> ModulusRows
-    requires { ⌜ length (now moduli) ≤ 8 ⌝ }
-    ensures { λ r. ⌜ Lists (problemOf n (now (matrix .entry)) (now (moduli .entry))) r ⌝ }
-{
-    let mut r = ModulusRows { rows: [0; 8], s: 0 };
-    let mut i = 0;
-    while i < moduli.len() {
-        if !is_zero(moduli[i]) {
-            r = r.with(i);
-        }
-        i += 1;
-    }
-    r
-}
+use checks::ModulusRows;
+use checks::modulus_rows;
 
 // The entry of C in row i and column c.
 fn entry_of_c(n: usize, matrix: &[i32], moduli: &[i32], q: ModulusRows, i: usize, c: usize) -> i32
@@ -121,7 +89,7 @@ pub fn run(n: usize, matrix: &[i32], moduli: &[i32]) -> Outcome
     ensures { λ r. ⌜ Ran (problemOf n (now (matrix .entry)) (now (moduli .entry))) r ⌝ }
 {
     let m = moduli.len();
-    let q = modulus_rows(n, matrix, moduli);
+    let q = modulus_rows(moduli);
     let s = q.s;
     let cols = n + s;
     let first = start(n, matrix, moduli, q);

@@ -5,10 +5,10 @@ ghost use Prim.Native.Nat.{_<_, _≤_, _*_};
 ghost use lib.ListN.{length};
 ghost use lib.IntN.{natAbs};
 ghost use Rattle.scaling.specs.Flat.{Within, Added, swapF, negF, turnF};
-use crate::numbers::beyond;
 use crate::numbers::mix;
 use crate::numbers::opposite;
 use crate::numbers::stored;
+use checks::beyond;
 
 pub fn either(a: bool, b: bool) -> bool
     ensures { λ r. ⌜ r ≡ a || b ⌝ }

@@ -18,7 +18,6 @@ use crate::numbers::cut;
 use crate::numbers::floor;
 use crate::numbers::is_negative;
 use crate::numbers::is_none;
-use crate::numbers::is_zero;
 use crate::numbers::minus;
 use crate::numbers::size;
 use crate::strided::add_t;
@@ -30,6 +29,7 @@ use crate::strided::swap_t;
 use crate::strided::swap_v;
 use crate::strided::turn_t;
 use crate::strided::turn_v;
+use checks::is_zero;
 
 // T is m by n, V and W are n by n, row after row without gaps; n is document 01's N.
 pub struct Work {

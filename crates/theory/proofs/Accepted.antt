@@ -2,7 +2,7 @@
 -- translates within M.
 use mathlib.Core.Path.{_≡_, refl}
 use mathlib.Core.Bool.{Bool, true, false, not, _&&_}
-use mathlib.Core.List.{List, [], _∷_}
+use mathlib.Core.List.{List, [], _∷_, _++_}
 use Prim.Native.Nat.{ℕ, _*_, _≤_, _<_}
 use native.Mathlib.Omega.{arith}
 use native.Mathlib.Decide.{decLt}
@@ -19,7 +19,7 @@ use Rattle.rules.specs.Search.{Found, none, found, first}
 use Rattle.rules.specs.Problem.{Problem, modulus, WellFormed}
 use Rattle.rules.specs.Stages.{Run, run}
 use Rattle.rules.specs.Formulas.{isNone, isFree, passes, Free, d, translated, Formula, terms, term, WellFormedFormula}
-use Rattle.rules.specs.Calls.{Check, taken, refused, verdict, unless, firstOut, termsFault, termRefused, problemFits, formulaFits}
+use Rattle.rules.specs.Calls.{Check, taken, refused, verdict, unless, firstOut, termsFault, termRefused, problemFits, formulaFits, checksTo5}
 use Rattle.rules.specs.Calls.{sizesCheck, inputsCheck, outputsCheck, moduliCheck, entriesCheck, exponentsCheck, rangeCheck, termsCheck}
 use Rattle.rules.specs.Calls.{buildVerdict, translateVerdict}
 use Rattle.theory.proofs.Weights.{free-of-isFree}
@@ -150,7 +150,7 @@ terms-taken P u f e t h = first-nowhere bad 0 (terms f) (go (first bad 0 (terms 
 
 -- ---- the build and the translation, which share their first five checks
 abbrev checks : Problem → (inputs outputs : Bool) → List Check → List Check
-checks P inputs outputs more = sizesCheck P ∷ inputsCheck inputs ∷ outputsCheck outputs ∷ moduliCheck P ∷ entriesCheck P ∷ more
+checks P inputs outputs more = checksTo5 P inputs outputs ++ more
 
 record Passed (P : Problem) (inputs : Bool) (more : List Check) : Type 0 where
   inputsFit : inputs ≡ true
@@ -166,7 +166,7 @@ checks-passed P inputs outputs more e =
       others = a .1 .1 .1 .1 .1;
     }
 
-not-over : (u : Run) → rangeCheck u .fault ≡ none → u .state .over ≡ false
+pub not-over : (u : Run) → rangeCheck u .fault ≡ none → u .state .over ≡ false
 not-over u e = not-true (u .state .over) (unless-none (not (u .state .over)) e)
 
 pub build-accepted : (P : Problem) (outputs : Bool) → buildVerdict P (problemFits P) outputs ≡ taken

@@ -22,7 +22,7 @@ module _ {m n r : ℕ} {H : Matrix} {row : ℕ → ℕ} (h : Hermite m n r H row
   rows-climb zero b = omega (arith, f 0 b)
   rows-climb (suc j) b = omega (arith, rows-climb j (omega arith), h .rising j (suc j) (omega arith) b)
 
-  rank-le-rows : r ≤ m - s
+  pub rank-le-rows : r ≤ m - s
   rank-le-rows = go (decLt (m - s) r)
     where
       go : Dec (m - s < r) → r ≤ m - s

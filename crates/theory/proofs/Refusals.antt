@@ -1,8 +1,9 @@
--- A number that no check of a list has is never given: no refusal has the number 0. The build's checks are among the translation's.
+-- Lists of checks: in two parts; a number that no check of a list has is never given, so that no refusal has the number 0; the build's checks are among
+-- the translation's.
 use mathlib.Core.Path.{_≡_, refl, _∙_}
 use mathlib.Core.Logic.{_≢_}
 use mathlib.Core.Bool.{Bool, true, false}
-use mathlib.Core.List.{List, [], _∷_}
+use mathlib.Core.List.{List, [], _∷_, _++_}
 use Prim.Native.Nat.{ℕ}
 use native.Mathlib.Omega.{arith}
 use lib.IntN.{ℤ}
@@ -10,11 +11,33 @@ use Rattle.rules.specs.Search.{Found, none, found, first}
 use Rattle.rules.specs.Problem.{Problem}
 use Rattle.rules.specs.Stages.{run}
 use Rattle.rules.specs.Formulas.{Formula, isFree, term, terms}
-use Rattle.rules.specs.Calls.{Check, taken, refused, verdict, termsFault, termRefused}
+use Rattle.rules.specs.Calls.{Check, Verdict, taken, refused, verdict, termsFault, termRefused, checksTo5}
 use Rattle.rules.specs.Calls.{sizesCheck, inputsCheck, outputsCheck, moduliCheck, entriesCheck, exponentsCheck, rangeCheck, termsCheck}
 use Rattle.rules.specs.Calls.{buildVerdict, weighVerdict, translateVerdict}
 use Rattle.theory.proofs.Accepted.{all-pass, taken-of-all}
 
+-- ---- a list in two parts
+pub goes-on : (cs ds : List Check) → verdict cs ≡ taken → verdict (cs ++ ds) ≡ verdict ds
+goes-on [] ds e = refl
+goes-on (c ∷ cs) ds e = go (c .fault) (goes-on cs ds) e
+  where
+    go : (x : Found) → (verdict cs ≡ taken → verdict (cs ++ ds) ≡ verdict ds)
+        → elim x [ none ↦ verdict cs | found place ↦ refused (c .number) place ] ≡ taken
+        → _≡_ {A = Verdict} (elim x [ none ↦ verdict (cs ++ ds) | found place ↦ refused (c .number) place ]) (verdict ds)
+    go none rest e = rest e
+    go (found place) rest e = let z : _≡_ {A = ℕ} 0 1 = cc in absurd (omega arith)
+
+pub stays : (cs ds : List Check) (number place : ℕ) → verdict cs ≡ refused number place → verdict (cs ++ ds) ≡ refused number place
+stays [] ds number place e = let z : _≡_ {A = ℕ} 0 1 = cc in absurd (omega arith)
+stays (c ∷ cs) ds number place e = go (c .fault) (stays cs ds number place) e
+  where
+    go : (x : Found) → (verdict cs ≡ refused number place → verdict (cs ++ ds) ≡ refused number place)
+        → elim x [ none ↦ verdict cs | found at ↦ refused (c .number) at ] ≡ refused number place
+        → _≡_ {A = Verdict} (elim x [ none ↦ verdict (cs ++ ds) | found at ↦ refused (c .number) at ]) (refused number place)
+    go none rest e = rest e
+    go (found at) rest e = e
+
+-- ---- numbers
 -- a check that finds a fault has another number than k
 abbrev Numbered : (k : ℕ) → Check → Type 0
 Numbered k c = (place : ℕ) → c .fault ≡ found place → c .number ≢ k
@@ -42,7 +65,7 @@ terms-numbered P f (found t) place e = go (isFree P (term P f t))
 
 module _ (P : Problem) (inputs outputs : Bool) where
   abbrev checks : List Check → List Check
-  checks more = sizesCheck P ∷ inputsCheck inputs ∷ outputsCheck outputs ∷ moduliCheck P ∷ entriesCheck P ∷ more
+  checks more = checksTo5 P inputs outputs ++ more
 
   five-numbered : (more : List Check) → AllNumbered 0 more → AllNumbered 0 (checks more)
   five-numbered more a =

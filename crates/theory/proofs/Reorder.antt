@@ -54,7 +54,7 @@ module _ (n a r : ℕ) (e : a + r ≡ n) where
       go (fail x) (pass y) = omega (arith, turn-high a r c x, turn-low a r d y)
       go (fail x) (fail y) = omega (arith, turn-high a r c x, turn-high a r d y)
 
-  δ-turn : (c d : ℕ) → c < n → d < n → δ (turn a r c) (turn a r d) ≡ δ c d
+  pub δ-turn : (c d : ℕ) → c < n → d < n → δ (turn a r c) (turn a r d) ≡ δ c d
   δ-turn c d h k = go (ℕ-discrete c d)
     where
       go : Dec (c ≡ d) → δ (turn a r c) (turn a r d) ≡ δ c d

@@ -236,7 +236,9 @@ encode-requires-2 c κs =
     (omega (arith, v-whole (e .before), T .fits), T .room)
 
 slice-aggregate-encode-3 : tie.Need-slice-aggregate-encode-3
-slice-aggregate-encode-3 c = w-whole (c .before .before .before .before .before .before .before .before .before .before .before .before .before .before)
+slice-aggregate-encode-3 c =
+    let e = c .before .before .before .before .before .before .before .before .before .before .before .before .before .before in
+    omega (arith, v-whole e, w-whole e)
 
 mul-encode-3 : tie.Need-mul-encode-3
 mul-encode-3 c = omega (arith, done (c .before .before .before .before .before .before .before .before .before .before .before .before .before) .written-w .fits)
@@ -245,7 +247,7 @@ encode-requires-3 : tie.Need-encode-requires-3
 encode-requires-3 c κs =
     let e = c .before .before .before .before .before .before .before .before .before .before .before .before .before in
     let T = done e .written-w in
-    (omega (arith, w-whole (e .before), T .fits), T .room)
+    (omega (arith, v-whole (e .before), w-whole (e .before), T .fits), T .room)
 
 same-length-4 : tie.Need-same-length-4
 same-length-4 c = c .before .before .before .before .before .before .before .before .before .before .before .before .encode .kept .0

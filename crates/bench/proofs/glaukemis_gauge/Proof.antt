@@ -5,7 +5,7 @@ use borrow.Author.Needs.{needs}
 use denote.Ref.{now}
 use Rattle.rules.specs.Problem.{Problem}
 use Rattle.rules.specs.Gauges.{lentReadings, Gauged, gaugeOf, gaugeAnswer}
-use Rattle.scaling.specs.Checks.{given}
+use Rattle.checks.specs.Checks.{given}
 use Rattle.gauges.specs.declared.Gauged as declared
 use Rattle.gauges.specs.Held.{told}
 use Rattle.bench.specs.declared.GaugeAnswer.{GaugeAnswer}

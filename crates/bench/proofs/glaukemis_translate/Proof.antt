@@ -1,4 +1,4 @@
--- glaukemis_translate meets its contract: what it hears of the bytes and hands on is a call of scaling::translate, and proofs/TranslateCall does the rest.
+-- glaukemis_translate meets its contract: what it hears of the bytes and hands on is a call of formulas::translate, and proofs/TranslateCall does the rest.
 -- Assumes nothing.
 use mathlib.Core.Path.{_≡_, refl, _∙_}
 use mathlib.Core.List.{List, _++_}
@@ -6,7 +6,7 @@ use Prim.Native.Nat.{ℕ}
 use native.Mathlib.Omega.{arith}
 use lib.ListN.{length, take, drop, replicate}
 use lib.IntN.{ℤ, pos}
-use Rattle.scaling.specs.declared.TranslateAnswer.{TranslateAnswer}
+use Rattle.formulas.specs.declared.TranslateAnswer.{TranslateAnswer}
 use Rattle.bench.proofs.Inputs.{decoded-within, decoded-length, decoded-reads}
 use Rattle.bench.proofs.Outputs.{room-le, prefix-length, prefix-lent, whole-length, written-is}
 use Rattle.bench.proofs.TranslateCall.{Called, Taken, refusal, success}
@@ -15,7 +15,7 @@ use Rattle.bench.proofs.glaukemis_translate.Statement.{statement}
 use Rattle.bench.proofs.glaukemis_translate.Tie as tie
 use Rattle.bench.proofs.glaukemis_translate.Reads as reads
 use Rattle.bench.proofs.glaukemis_translate.Lts as lts
-use Rattle.scaling.proofs.translate.Reads as translate-reads
+use Rattle.formulas.proofs.translate.Reads as translate-reads
 use Rattle.bench.proofs.words.decode.Reads as decode-reads
 use Rattle.bench.proofs.words.encode.Reads as encode-reads
 use Rattle.bench.proofs.words.room.Reads as room-reads
@@ -32,7 +32,7 @@ claims = (
   encode-reads.Learnt,
 )
 
--- the place where scaling::translate has answered and the arrays are whole again, and what is known there
+-- the place where formulas::translate has answered and the arrays are whole again, and what is known there
 abbrev Answered : Type 0
 Answered = lts.After-y2 claims reads.Pre reads.Post
 
@@ -238,7 +238,7 @@ encode-requires-2 : tie.Need-encode-requires-2
 encode-requires-2 c κs =
     let e = c .before .before .before .before .before .before .before .before in
     let T = done e .written-translated in
-    (omega (arith, translated-whole (e .before), T .fits), T .room)
+    (omega (arith, translated-whole (e .before), T .fits), omega (arith, T .room))
 
 same-length-3 : tie.Need-same-length-3
 same-length-3 c = c .before .before .before .before .before .before .before .before .encode .kept .0

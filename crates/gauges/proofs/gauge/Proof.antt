@@ -9,9 +9,10 @@ use lib.IntN.{ℤ, pos}
 use Rattle.rules.specs.Problem.{Problem}
 use Rattle.rules.specs.Gauges as rules
 use Rattle.scaling.specs.declared.BuildAnswer.{BuildAnswer}
-use Rattle.scaling.specs.Checks.{given}
+use Rattle.checks.specs.Checks.{given}
 use Rattle.gauges.specs.Held.{setOf}
-use Rattle.gauges.proofs.Called.{Called, refused-for-sizes, refused-for-count, refused-by-build}
+use Rattle.scaling.proofs.Called.{Called}
+use Rattle.gauges.proofs.Called.{refused-for-sizes, refused-for-count, refused-by-build}
 use Rattle.gauges.proofs.Called.{well-formed, few-cols, rank-in, table, evaluated}
 use Rattle.gauges.proofs.gauge.Statement.{statement}
 use Rattle.gauges.proofs.gauge.Tie as tie
@@ -127,7 +128,7 @@ returns-4 : tie.Need-returns-4
 returns-4 c =
     let e = built (c .before) in
     let b = lent e in
-    c .evaluate .ensures ∙ evaluated (called b) (e .if3 .left) (R b) (entry b .args .group) (e .before .if2 .left)
+    rw (c .evaluate .ensures) (evaluated (called b) (e .if3 .left) (R b) (entry b .args .group) (e .before .if2 .left))
 
 pub gauge-spec : {M : Type 1} → statement M
 gauge-spec =

@@ -9,7 +9,7 @@ use mir.Syntax.{w64}
 use mir.Val.{SFits, Fits}
 use mir.Facts.{toZ-ofZ}
 use Rattle.whole.proofs.Order.{abs-neg}
-use Rattle.scaling.proofs.Values.{abs32, cast-fits, widened, neg-fits, neg-nonneg, pos-nonneg}
+use Rattle.checks.proofs.Values.{abs32, cast-fits, widened, neg-fits, neg-nonneg, pos-nonneg}
 use Rattle.problems.proofs.number.Statement.{statement}
 use Rattle.problems.proofs.number.Tie as tie
 

@@ -22,10 +22,10 @@ module _ (c : tie.After-problem) where
   b = c .before .before .before
 
   checked : Checked (b .args .m) (b .args .n) (b .args .matrix .now) (b .args .moduli .now) (b .args .h .now) (b .args .v .now) (b .args .w .now)
-      (c .before .both2 .result) (c .problem .result .number) (c .problem .result .place)
+      (c .before .both2 .result) (c .problem .result)
   checked = record {
     room = c .before .both2 .ensures ∙ ap (λ (x : Bool). leb 192 (length (b .args .h .now)) && x) (c .before .before .both .ensures);
-    says = c .problem .ensures;
+    tells = c .problem .ensures;
   }
 
 returns : tie.Need-returns

@@ -4,7 +4,7 @@ use Prim.Native.Nat.{ℕ, _+_, _*_, _≤_}
 use native.Mathlib.Omega.{arith}
 use borrow.Author.Needs.{needs}
 use Rattle.rules.specs.Problem.{Problem, N}
-use Rattle.scaling.specs.Problem.{problemOf}
+use Rattle.checks.specs.Moduli.{problemOf}
 use Rattle.theory.proofs.Sizes.{N-le-24}
 use Rattle.scaling.proofs.MatrixC.{area-above, square-above}
 use Rattle.scaling.proofs.State.{Long}

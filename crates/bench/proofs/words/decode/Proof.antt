@@ -5,7 +5,7 @@ use native.Mathlib.Omega.{arith}
 use borrow.Author.Needs.{needs}
 use lib.ListN.{length, take, length-set}
 use Rattle.rules.specs.Bytes.{longs}
-use Rattle.scaling.proofs.Values.{held}
+use Rattle.checks.proofs.Values.{held}
 use Rattle.bench.proofs.Rooms.{readable-torn, readable-long, decoded-wrong, decoded-all, decoded-suc}
 use Rattle.bench.proofs.words.decode.Statement.{statement}
 use Rattle.bench.proofs.words.decode.Tie as tie

@@ -10,7 +10,7 @@ use mir.Syntax.{w32}
 use mir.Val.{ofZ}
 use Rattle.rules.specs.Bytes.{bytesOf}
 use Rattle.rules.specs.Calls.{filled}
-use Rattle.scaling.proofs.Values.{held}
+use Rattle.checks.proofs.Values.{held}
 use Rattle.bench.proofs.Bytes.{filled-suc}
 use Rattle.bench.proofs.words.encode.Statement.{statement}
 use Rattle.bench.proofs.words.encode.Tie as tie

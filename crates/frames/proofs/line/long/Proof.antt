@@ -6,7 +6,7 @@ use native.Mathlib.Nat.{add-zero}
 use mir.Syntax.{w32}
 use mir.Val.{toZ}
 use Rattle.frames.proofs.Digits.{part-digits}
-use Rattle.scaling.proofs.Values.{held}
+use Rattle.checks.proofs.Values.{held}
 use Rattle.frames.proofs.Numbers.{long-is}
 use native.Mathlib.Omega.{arith}
 use borrow.Author.Needs.{needs}

@@ -4,7 +4,7 @@ use mathlib.Core.Path.{ap, _∙_}
 use lib.ListN.{drop}
 use mir.Syntax.{w16}
 use mir.Val.{toZ}
-use Rattle.scaling.proofs.Values.{held}
+use Rattle.checks.proofs.Values.{held}
 use Rattle.frames.proofs.Numbers.{short-is}
 use borrow.Author.Needs.{needs}
 use Rattle.frames.proofs.line.short.Statement.{statement}

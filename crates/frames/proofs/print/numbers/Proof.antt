@@ -6,7 +6,7 @@ use lib.ListN.{take, drop}
 use Rattle.rules.specs.Bytes.{bytesOf}
 use Rattle.rules.specs.Frames.{hex}
 use Rattle.frames.specs.Output.{Wrote}
-use Rattle.scaling.proofs.Values.{held}
+use Rattle.checks.proofs.Values.{held}
 use Rattle.frames.proofs.Writes.{wrote-none, wrote-length, wrote-same}
 use Rattle.frames.proofs.Printed.{digits-length, number-room, number-again}
 use native.Mathlib.Omega.{arith}

@@ -6,7 +6,7 @@ use lib.ListN.{length, take}
 use lib.Seq.{length-take-le}
 use Rattle.rules.specs.Frames.{termLines}
 use Rattle.frames.specs.Output.{Wrote}
-use Rattle.scaling.proofs.Values.{held}
+use Rattle.checks.proofs.Values.{held}
 use Rattle.frames.proofs.Writes.{wrote-none, wrote-length, wrote-same}
 use Rattle.frames.proofs.Printed.{terms-length, term-inside, term-room, term-again}
 use native.Mathlib.Omega.{arith}

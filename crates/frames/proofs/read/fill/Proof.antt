@@ -6,7 +6,7 @@ use lib.ListN.{length, drop}
 use lib.Seq.{paste, paste-zero}
 use Rattle.rules.specs.Bytes.{shorts}
 use Rattle.rules.specs.Frames.{unhex}
-use Rattle.scaling.proofs.Values.{held}
+use Rattle.checks.proofs.Values.{held}
 use Rattle.frames.proofs.Stored.{fill-digits, fill-length, fill-again}
 use native.Mathlib.Omega.{arith}
 use Rattle.frames.proofs.read.fill.Statement.{statement}

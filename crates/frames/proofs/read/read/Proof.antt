@@ -1,6 +1,7 @@
 -- `frames::read::read` answers what the lines say. Both loops keep: where the reading stands after the lines behind.
 -- Assumes nothing.
-use mathlib.Core.Path.{sym, _∙_}
+use mathlib.Core.Path.{_≡_, sym, _∙_}
+use mathlib.Core.Bool.{Bool, true, false, not}
 use Prim.Native.Nat.{_+_, _-_, _*_}
 use borrow.Author.Tests.{not-true, not-false}
 use lib.ListN.{length}
@@ -9,6 +10,13 @@ use Rattle.frames.proofs.Progress.{Past, refusal-holds, first-off, size
 use native.Mathlib.Omega.{arith}
 use Rattle.frames.proofs.read.read.Statement.{statement}
 use Rattle.frames.proofs.read.read.Tie as tie
+
+-- what a negated test says of what it stands for
+passed : {test x : Bool} → test ≡ x → not test ≡ false → x ≡ true
+passed {test} e n = sym e ∙ not-false test n
+
+failed : {test x : Bool} → test ≡ x → not test ≡ true → x ≡ false
+failed {test} e n = sym e ∙ not-true test n
 
 abbrev Inv-loop : tie.InvT-loop
 Inv-loop s m n input₀ at₀ i₀ input at i = Past s m n i 0 at input
@@ -30,12 +38,12 @@ new-requires c κs = tt
 
 returns : tie.Need-returns Inv-loop μ-loop Inv-loop2 μ-loop2
 returns c =
-    let g = sym (c .before .before .starts-frame .ensures) ∙ not-true _ (c .before .if1 .taken) in
+    let g = failed (c .before .before .starts-frame .ensures) (c .before .if1 .taken) in
     refusal-holds 10 0 (c .new .ensures) (λ e. omega arith) (first-off (c .before .before .before .before .args .text .now) g)
 
 byte-requires : tie.Need-byte-requires Inv-loop μ-loop Inv-loop2 μ-loop2
 byte-requires c κs =
-    let g = sym (c .before .starts-frame .ensures) ∙ not-false _ (c .if1 .left) in
+    let g = passed (c .before .starts-frame .ensures) (c .if1 .left) in
     omega (arith, frame-room (c .before .before .before .args .text .now) 0 1 6 g)
 
 cast-m : tie.Need-cast-m Inv-loop μ-loop Inv-loop2 μ-loop2
@@ -43,7 +51,7 @@ cast-m c = omega arith
 
 byte-requires-2 : tie.Need-byte-requires-2 Inv-loop μ-loop Inv-loop2 μ-loop2
 byte-requires-2 c κs =
-    let g = sym (c .before .before .starts-frame .ensures) ∙ not-false _ (c .before .if1 .left) in
+    let g = passed (c .before .before .starts-frame .ensures) (c .before .if1 .left) in
     omega (arith, frame-room (c .before .before .before .before .args .text .now) 0 1 6 g)
 
 cast-n : tie.Need-cast-n Inv-loop μ-loop Inv-loop2 μ-loop2
@@ -57,8 +65,8 @@ new-requires-2 c κs = tt
 
 returns-2 : tie.Need-returns-2 Inv-loop μ-loop Inv-loop2 μ-loop2
 returns-2 c =
-    let g = sym (c .before .before .before .before .before .before .starts-frame .ensures) ∙ not-false _ (c .before .before .before .before .before .if1 .left) in
-    let h = sym (c .before .before .sizes-in-range .ensures) ∙ not-true _ (c .before .if2 .taken) in
+    let g = passed (c .before .before .before .before .before .before .starts-frame .ensures) (c .before .before .before .before .before .if1 .left) in
+    let h = failed (c .before .before .sizes-in-range .ensures) (c .before .if2 .taken) in
     refusal-holds 1 0 (c .new2 .ensures) (λ e. omega arith) (sizes-off (c .before .before .before .before .before .before .before .before .args .text .now) _ _ (c .before .before .before .before .byte .ensures) (c .before .before .before .byte2 .ensures) g h)
 
 new-requires-3 : tie.Need-new-requires-3 Inv-loop μ-loop Inv-loop2 μ-loop2
@@ -66,8 +74,8 @@ new-requires-3 c κs = tt
 
 loop-holds : tie.Need-loop-holds Inv-loop μ-loop Inv-loop2 μ-loop2
 loop-holds c =
-    let g = sym (c .before .before .before .before .before .before .starts-frame .ensures) ∙ not-false _ (c .before .before .before .before .before .if1 .left) in
-    let h = sym (c .before .before .sizes-in-range .ensures) ∙ not-false _ (c .before .if2 .left) in
+    let g = passed (c .before .before .before .before .before .before .starts-frame .ensures) (c .before .before .before .before .before .if1 .left) in
+    let h = passed (c .before .before .sizes-in-range .ensures) (c .before .if2 .left) in
     sizes-on (c .before .before .before .before .before .before .before .before .args .text .now) _ _ (c .before .before .before .before .byte .ensures) (c .before .before .before .byte2 .ensures) g h (c .new3 .ensures)
 
 mul-starts-frame : tie.Need-mul-starts-frame Inv-loop μ-loop Inv-loop2 μ-loop2
@@ -90,12 +98,12 @@ new-requires-4 c κs = tt
 
 returns-3 : tie.Need-returns-3 Inv-loop μ-loop Inv-loop2 μ-loop2
 returns-3 c =
-    let g = sym (c .before .before .starts-frame2 .ensures) ∙ not-true _ (c .before .if3 .taken) in
+    let g = failed (c .before .before .starts-frame2 .ensures) (c .before .if3 .taken) in
     refusal-holds 10 _ (c .new4 .ensures) (λ e. omega arith) (row-off (c .before .before .before .before .loop .inv) (omega arith) g)
 
 row-requires : tie.Need-row-requires Inv-loop μ-loop Inv-loop2 μ-loop2
 row-requires c κs =
-    let g = sym (c .before .starts-frame2 .ensures) ∙ not-false _ (c .if3 .left) in
+    let g = passed (c .before .starts-frame2 .ensures) (c .if3 .left) in
     row-asks (c .before .before .before .loop .inv) (omega arith) g
 
 mul-at : tie.Need-mul-at Inv-loop μ-loop Inv-loop2 μ-loop2
@@ -108,7 +116,7 @@ add-at-2 : tie.Need-add-at-2 Inv-loop μ-loop Inv-loop2 μ-loop2
 add-at-2 c =
     let s = c .before .before .before .before .before .before .before .before .before .before .before .before .before .args .text .now in
     let l = c .before .before .before .before .loop in
-    let g = sym (c .before .before .starts-frame2 .ensures) ∙ not-false _ (c .before .if3 .left) in
+    let g = passed (c .before .before .starts-frame2 .ensures) (c .before .if3 .left) in
     omega (arith, c .before .before .before .before .before .before .before .before .before .before .before .before .before .good .0 .0, frame-room s (l .at) 2 (6 + 4 * c .before .before .before .before .before .before .before .before .byte2 .result) g)
 
 add-i : tie.Need-add-i Inv-loop μ-loop Inv-loop2 μ-loop2
@@ -119,7 +127,7 @@ loop-less c = omega arith
 
 loop-again : tie.Need-loop-again Inv-loop μ-loop Inv-loop2 μ-loop2
 loop-again c =
-    let g = sym (c .before .before .starts-frame2 .ensures) ∙ not-false _ (c .before .if3 .left) in
+    let g = passed (c .before .before .starts-frame2 .ensures) (c .before .if3 .left) in
     row-on (c .before .before .before .before .loop .inv) (omega arith) g (c .row .ensures)
 
 loop2-holds : tie.Need-loop2-holds Inv-loop μ-loop Inv-loop2 μ-loop2
@@ -163,12 +171,12 @@ new-requires-6 c κs = tt
 
 returns-5 : tie.Need-returns-5 Inv-loop μ-loop Inv-loop2 μ-loop2
 returns-5 c =
-    let g = sym (c .before .before .starts-frame3 .ensures) ∙ not-true _ (c .before .if5 .taken) in
+    let g = failed (c .before .before .starts-frame3 .ensures) (c .before .if5 .taken) in
     refusal-holds 10 _ (c .new6 .ensures) (λ e. omega arith) (term-off (c .before .before .before .before .before .loop2 .inv) (omega arith) (c .before .before .before .if4 .left) g)
 
 term-requires : tie.Need-term-requires Inv-loop μ-loop Inv-loop2 μ-loop2
 term-requires c κs =
-    let g = sym (c .before .starts-frame3 .ensures) ∙ not-false _ (c .if5 .left) in
+    let g = passed (c .before .starts-frame3 .ensures) (c .if5 .left) in
     term-asks (c .before .before .before .before .loop2 .inv) (omega arith) (c .before .before .if4 .left) g
 
 mul-at-2 : tie.Need-mul-at-2 Inv-loop μ-loop Inv-loop2 μ-loop2
@@ -181,7 +189,7 @@ add-at-4 : tie.Need-add-at-4 Inv-loop μ-loop Inv-loop2 μ-loop2
 add-at-4 c =
     let s = c .before .before .before .before .before .before .before .before .before .before .before .before .before .before .before .before .args .text .now in
     let l = c .before .before .before .before .before .loop2 in
-    let g = sym (c .before .before .starts-frame3 .ensures) ∙ not-false _ (c .before .if5 .left) in
+    let g = passed (c .before .before .starts-frame3 .ensures) (c .before .if5 .left) in
     omega (arith, c .before .before .before .before .before .before .before .before .before .before .before .before .before .before .before .before .good .0 .0, frame-room s (l .at) 3 (10 + 4 * c .before .before .before .before .before .before .before .before .before .before .before .byte2 .result) g)
 
 add-k : tie.Need-add-k Inv-loop μ-loop Inv-loop2 μ-loop2
@@ -192,7 +200,7 @@ loop2-less c = omega arith
 
 loop2-again : tie.Need-loop2-again Inv-loop μ-loop Inv-loop2 μ-loop2
 loop2-again c =
-    let g = sym (c .before .before .starts-frame3 .ensures) ∙ not-false _ (c .before .if5 .left) in
+    let g = passed (c .before .before .starts-frame3 .ensures) (c .before .if5 .left) in
     term-on (c .before .before .before .before .before .loop2 .inv) (omega arith) (c .before .before .before .if4 .left) g (c .term .ensures)
 
 returns-6 : tie.Need-returns-6 Inv-loop μ-loop Inv-loop2 μ-loop2

@@ -12,7 +12,7 @@ use lib.IntN.{ℤ}
 use Rattle.rules.specs.Limits.{powerInRange}
 use Rattle.rules.specs.Search.{none, first}
 use Rattle.theory.proofs.Loops.{first-start, first-more}
-use Rattle.scaling.proofs.Values.{held}
+use Rattle.checks.proofs.Values.{held}
 use Rattle.gauges.specs.Held.{entries}
 use Rattle.gauges.proofs.Searched.{found-here, found-none}
 use Rattle.gauges.proofs.values.first_large.Statement.{statement}

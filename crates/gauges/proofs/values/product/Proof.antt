@@ -10,7 +10,7 @@ use lib.Ieee.{ofBits}
 use Rattle.rules.specs.Gauges.{read, groupValue}
 use Rattle.gauges.specs.Held.{entries}
 use Rattle.theory.proofs.Operations.{value-none, value-by}
-use Rattle.scaling.proofs.Values.{held}
+use Rattle.checks.proofs.Values.{held}
 use Rattle.gauges.proofs.values.product.Statement.{statement}
 use Rattle.gauges.proofs.values.product.Tie as tie
 

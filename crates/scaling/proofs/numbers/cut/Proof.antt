@@ -4,7 +4,7 @@ use lib.Signed.{quotZ}
 use mir.Syntax.{w64}
 use mir.Val.{SFits}
 use mir.Facts.{toZ-ofZ}
-use Rattle.scaling.proofs.Values.{abs32, cast-fits, widened, quot-fits, divides}
+use Rattle.checks.proofs.Values.{abs32, cast-fits, widened, quot-fits, divides}
 use Rattle.scaling.proofs.numbers.cut.Statement.{statement}
 use Rattle.scaling.proofs.numbers.cut.Tie as tie
 

@@ -9,7 +9,7 @@ use mir.Val.{SFits, toZ, ofZ}
 use mir.Facts.{toZ-ofZ}
 use Rattle.whole.proofs.Order.{zarith, abs-sub, abs-neg, parts}
 use Rattle.whole.proofs.Division.{quot-le}
-use Rattle.scaling.proofs.Values.{abs32, cast-fits, widened, divides, sub-fits, quot-fits, neg-fits, bits-pos, is-lt, is-le}
+use Rattle.checks.proofs.Values.{abs32, cast-fits, widened, divides, sub-fits, quot-fits, neg-fits, bits-pos, is-lt, is-le}
 use Rattle.scaling.proofs.Values.{floor-neg-pos, floor-pos-pos, floor-pos-neg, floor-neg-neg}
 use Rattle.scaling.proofs.numbers.floor.Statement.{statement}
 use Rattle.scaling.proofs.numbers.floor.Tie as tie

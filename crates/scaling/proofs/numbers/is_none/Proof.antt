@@ -1,7 +1,7 @@
 -- `numbers::is_none` meets its contract: the bits are 0 where the number is.
 use mathlib.Core.Path.{refl}
 use mir.Syntax.{w64}
-use Rattle.scaling.proofs.Values.{zero-bits}
+use Rattle.checks.proofs.Values.{zero-bits}
 use Rattle.scaling.proofs.numbers.is_none.Statement.{statement}
 use Rattle.scaling.proofs.numbers.is_none.Tie as tie
 

@@ -3,7 +3,7 @@ use lib.IntN.{negℤ, +ℤ-idl}
 use mir.Syntax.{w64}
 use mir.Val.{SFits}
 use mir.Facts.{toZ-ofZ}
-use Rattle.scaling.proofs.Values.{neg-fits}
+use Rattle.checks.proofs.Values.{neg-fits}
 use Rattle.scaling.proofs.numbers.minus.Statement.{statement}
 use Rattle.scaling.proofs.numbers.minus.Tie as tie
 

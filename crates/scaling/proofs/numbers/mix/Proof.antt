@@ -3,7 +3,7 @@ use lib.IntN.{_+ℤ_, _*ℤ_}
 use mir.Syntax.{w64}
 use mir.Val.{SFits}
 use mir.Facts.{toZ-ofZ}
-use Rattle.scaling.proofs.Values.{abs32, cast-fits, widened, prod-fits, mix-fits}
+use Rattle.checks.proofs.Values.{abs32, cast-fits, widened, prod-fits, mix-fits}
 use Rattle.scaling.proofs.numbers.mix.Statement.{statement}
 use Rattle.scaling.proofs.numbers.mix.Tie as tie
 

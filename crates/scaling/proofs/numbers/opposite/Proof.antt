@@ -5,7 +5,7 @@ use lib.IntN.{negℤ, +ℤ-idl}
 use mir.Syntax.{w32, w64}
 use mir.Val.{SFits}
 use mir.Facts.{toZ-ofZ}
-use Rattle.scaling.proofs.Values.{abs32, neg-fits, cast-fits, widened}
+use Rattle.checks.proofs.Values.{abs32, neg-fits, cast-fits, widened}
 use Rattle.scaling.proofs.numbers.opposite.Statement.{statement}
 use Rattle.scaling.proofs.numbers.opposite.Tie as tie
 

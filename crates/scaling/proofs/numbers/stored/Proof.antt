@@ -4,7 +4,8 @@ use mathlib.Core.Bool.{true, false}
 use borrow.Author.Needs.{needs}
 use mir.Facts.{toZ-ofZ}
 use Rattle.rules.specs.Limits.{beyond}
-use Rattle.scaling.proofs.Values.{keep-is, within, fits32}
+use Rattle.checks.proofs.Values.{within, fits32}
+use Rattle.scaling.proofs.Values.{keep-is}
 use Rattle.scaling.proofs.numbers.stored.Statement.{statement}
 use Rattle.scaling.proofs.numbers.stored.Tie as tie
 

@@ -8,7 +8,7 @@ use mir.Syntax.{w32}
 use mir.Facts.{toZ-ofZ}
 use Rattle.rules.specs.Problem.{Problem, s}
 use Rattle.theory.proofs.ModulusRows.{modulusRow}
-use Rattle.scaling.specs.Problem.{problemOf}
+use Rattle.checks.specs.Moduli.{problemOf}
 use Rattle.scaling.proofs.MatrixC.{C-modulus, C-else, quantity-in, C-quantity}
 use Rattle.scaling.proofs.run.entry_of_c.Statement.{statement}
 use Rattle.scaling.proofs.run.entry_of_c.Tie as tie

@@ -9,7 +9,7 @@ use mir.Syntax.{w32}
 use mir.Facts.{toZ-ofZ}
 use Rattle.whole.specs.Lists.{tab}
 use Rattle.rules.specs.Problem.{Problem, N}
-use Rattle.scaling.specs.Problem.{problemOf}
+use Rattle.checks.specs.Moduli.{problemOf}
 use Rattle.scaling.proofs.Filling.{front-turn}
 use Rattle.scaling.proofs.MatrixC.{entryAt, columns-above, area-above, place-in, filled-holds}
 use Rattle.scaling.proofs.run.fill_c.Statement.{statement}
@@ -77,7 +77,7 @@ loop-again c =
     let h = fit b in (
       omega arith,
       length-set (l .t) _ _ ∙ l .inv .1,
-      front-turn _ _ (l .k) (l .inv .2) (toZ-ofZ {w = w32} (record { sfits = c .entry-of-c .ok }) ∙ c .entry-of-c .ensures) (omega arith),
+      front-turn _ _ (l .k) (l .inv .2) (rw (toZ-ofZ {w = w32} (record { sfits = c .entry-of-c .ok })) (c .entry-of-c .ensures)) (omega arith),
     )
 
 returns : tie.Need-returns Inv-loop μ-loop

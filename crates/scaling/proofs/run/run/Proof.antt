@@ -3,7 +3,8 @@ use mathlib.Core.Path.{ap}
 use Prim.Native.Nat.{ℕ, _+_}
 use borrow.Author.Needs.{needs}
 use Rattle.rules.specs.Problem.{Problem}
-use Rattle.scaling.specs.Problem.{problemOf}
+use Rattle.checks.specs.Moduli.{problemOf, Lists}
+use Rattle.checks.proofs.Listing.{lists-all}
 use Rattle.scaling.proofs.MatrixC.{columns-above}
 use Rattle.scaling.proofs.Running as Running
 use Rattle.scaling.proofs.run.run.Statement.{statement}
@@ -15,8 +16,12 @@ modulus-rows-requires c κs = search needs
 add-cols : tie.Need-add-cols
 add-cols c = search needs
 
+module _ (c : tie.After-modulus-rows) where
+  listed : Lists (problemOf (c .before .args .n) (c .before .args .matrix .now) (c .before .args .moduli .now)) (c .modulus-rows .result)
+  listed = lists-all (c .modulus-rows .ensures) (c .before .pre .m-high) (c .before .args .n) (c .before .args .matrix .now)
+
 start-requires : tie.Need-start-requires
-start-requires c κs = search needs
+start-requires c κs = (c .before .pre, listed c)
 
 module _ (c : tie.After-start) where
   abbrev b : tie.Start
@@ -30,8 +35,8 @@ module _ (c : tie.After-start) where
 
   started : Running.Started problem cols (c .before .modulus-rows .result .s) (c .start .result)
   started = record {
-    columns = ap (λ (x : ℕ). b .args .n + x) (c .before .modulus-rows .ensures .count);
-    counted = c .before .modulus-rows .ensures .count;
+    columns = ap (λ (x : ℕ). b .args .n + x) (listed (c .before) .count);
+    counted = listed (c .before) .count;
     begun = c .start .ensures;
   }
 

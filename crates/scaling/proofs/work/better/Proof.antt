@@ -9,7 +9,7 @@ use lib.ListN.{length}
 use lib.IntN.{natAbs}
 use Rattle.whole.specs.Lists.{nth}
 use Rattle.scaling.specs.Scan.{sizes, betterOf}
-use Rattle.scaling.proofs.Values.{held}
+use Rattle.checks.proofs.Values.{held}
 use Rattle.scaling.proofs.work.better.Statement.{statement}
 use Rattle.scaling.proofs.work.better.Tie as tie
 

@@ -9,7 +9,7 @@ use mir.Facts.{toZ-ofZ}
 use Rattle.whole.specs.Lists.{nth}
 use Rattle.whole.specs.Division.{floorZ}
 use Rattle.whole.proofs.Division.{floor-le}
-use Rattle.scaling.proofs.Values.{abs32, held}
+use Rattle.checks.proofs.Values.{abs32, held}
 use borrow.Author.Needs.{needs}
 use Rattle.scaling.proofs.work.floor_quotient.Statement.{statement}
 use Rattle.scaling.proofs.work.floor_quotient.Tie as tie

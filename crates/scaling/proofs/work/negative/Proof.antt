@@ -5,7 +5,7 @@ use lib.IntN.{ℤ, pos}
 use lib.Signed.{ltZ}
 use borrow.Author.Needs.{needs}
 use Rattle.whole.specs.Lists.{nth}
-use Rattle.scaling.proofs.Values.{held}
+use Rattle.checks.proofs.Values.{held}
 use Rattle.scaling.proofs.work.negative.Statement.{statement}
 use Rattle.scaling.proofs.work.negative.Tie as tie
 

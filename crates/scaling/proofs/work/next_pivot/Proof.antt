@@ -5,7 +5,7 @@ use Prim.Native.Nat.{_+_}
 use Rattle.whole.specs.Lists.{nth}
 use Rattle.rules.specs.Limits.{isZero}
 use borrow.Author.Needs.{needs}
-use Rattle.scaling.proofs.Values.{held}
+use Rattle.checks.proofs.Values.{held}
 use Rattle.scaling.proofs.work.next_pivot.Statement.{statement}
 use Rattle.scaling.proofs.work.next_pivot.Tie as tie
 

@@ -13,7 +13,7 @@ use Rattle.rules.specs.Limits.{isZero}
 use Rattle.rules.specs.Search.{none, first}
 use Rattle.rules.specs.Stages.{isOther}
 use Rattle.scaling.specs.Scan.{sizes}
-use Rattle.scaling.proofs.Values.{held}
+use Rattle.checks.proofs.Values.{held}
 use Rattle.theory.proofs.Search.{is-other}
 use Rattle.theory.proofs.Loops.{first-start, first-more, first-hit}
 use Rattle.scaling.proofs.work.other.Statement.{statement}

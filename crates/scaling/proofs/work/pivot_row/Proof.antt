@@ -12,7 +12,7 @@ use Rattle.whole.specs.Lists.{nth}
 use Rattle.rules.specs.Limits.{isZero}
 use Rattle.rules.specs.Search.{last}
 use Rattle.scaling.specs.Scan.{sizes}
-use Rattle.scaling.proofs.Values.{held}
+use Rattle.checks.proofs.Values.{held}
 use Rattle.scaling.proofs.Places.{cell}
 use Rattle.theory.proofs.Loops.{last-end, last-more, last-hit}
 use Rattle.scaling.proofs.work.pivot_row.Statement.{statement}

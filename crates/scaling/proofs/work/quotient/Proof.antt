@@ -9,7 +9,7 @@ use mir.Val.{toZ, ofZ}
 use mir.Facts.{toZ-ofZ}
 use Rattle.whole.specs.Lists.{nth}
 use Rattle.whole.proofs.Division.{quot-le}
-use Rattle.scaling.proofs.Values.{abs32, held}
+use Rattle.checks.proofs.Values.{abs32, held}
 use borrow.Author.Needs.{needs}
 use Rattle.scaling.proofs.work.quotient.Statement.{statement}
 use Rattle.scaling.proofs.work.quotient.Tie as tie

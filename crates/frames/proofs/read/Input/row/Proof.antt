@@ -6,7 +6,7 @@ use lib.Seq.{drop-drop}
 use Rattle.whole.proofs.Order.{row-within}
 use Rattle.frames.specs.Input.{withRow}
 use Rattle.frames.proofs.Digits.{part-digits}
-use Rattle.scaling.proofs.Values.{held}
+use Rattle.checks.proofs.Values.{held}
 use native.Mathlib.Omega.{arith}
 use borrow.Author.Needs.{needs}
 use Rattle.frames.proofs.read.Input.row.Statement.{statement}

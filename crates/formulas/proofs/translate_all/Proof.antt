@@ -1,0 +1,193 @@
+-- `translate_all` meets its contract. The loop's invariant: coefficients and exponents of the terms done are written, the other entries are as they were.
+use mathlib.Core.Path.{_≡_, refl, sym, _∙_, ap}
+use mathlib.Core.List.{List, _++_}
+use Prim.Native.Nat.{ℕ, suc, _+_, _-_, _*_, _≤_}
+use native.Mathlib.Omega.{arith}
+use lib.ListN.{length, drop, length-set}
+use lib.Seq.{take-length}
+use lib.IntN.{ℤ, pos}
+use mir.Syntax.{w32, w64}
+use mir.Val.{Fits}
+use mir.Facts.{toZ-ofZ}
+use denote.Ref.{now}
+use borrow.Author.Needs.{needs}
+use Rattle.whole.specs.Lists.{nth, tab}
+use Rattle.whole.specs.Matrix.{Matrix}
+use Rattle.rules.specs.Problem.{Problem}
+use Rattle.rules.specs.Stages.{run}
+use Rattle.rules.specs.Formulas.{Formula, terms, term, translated, d as groupCount}
+use Rattle.rules.specs.Calls.{grid, filled, translatedExponents}
+use Rattle.theory.proofs.Grid.{length-grid}
+use Rattle.checks.specs.Moduli.{problemOf}
+use Rattle.scaling.proofs.Filling.{front-turn, filled-front}
+use Rattle.formulas.specs.Answers.{formulaOf}
+use Rattle.formulas.proofs.GridRows.{begun, begun-none, begun-turn, length-begun}
+use Rattle.formulas.proofs.Translating.{groups-are, few-cols, rank-in, room-for-terms}
+use Rattle.formulas.proofs.Translating.{rows-in, exponent-is, taken-passes, term-place, term-monomial}
+use Rattle.formulas.proofs.translate_all.Statement.{statement}
+use Rattle.formulas.proofs.translate_all.Tie as tie
+
+-- row t holds the exponents of term t
+abbrev exponentsOf : Problem → Formula → Matrix
+exponentsOf P f t g = translated P (run P) (term P f t) g
+
+abbrev Inv-loop : tie.InvT-loop
+Inv-loop kept₀ out₀ n matrix moduli q w r coefficients exponents cols d t₀ kept out t =
+    (t ≤ length coefficients) × (out ≡ begun (n + q .s - r) (exponentsOf (problemOf n matrix moduli) (formulaOf coefficients exponents)) out₀ t)
+    × (length kept ≡ length kept₀) × (kept ≡ tab t (nth coefficients) ++ drop t kept₀)
+
+abbrev μ-loop : tie.MeasureT-loop
+μ-loop kept₀ out₀ n matrix moduli q w r coefficients exponents cols d t₀ kept out t = length coefficients - t
+
+module _ (c : tie.Start Inv-loop μ-loop) where
+  abbrev P : Problem
+  P = problemOf (c .args .n) (now (c .args .matrix)) (now (c .args .moduli))
+
+  abbrev f : Formula
+  f = formulaOf (now (c .args .coefficients)) (now (c .args .exponents))
+
+  abbrev out : List ℤ
+  out = now (c .args .out)
+
+  abbrev d : ℕ
+  d = c .args .n + c .args .q .s - c .args .r
+
+  room : (t : ℕ) → t ≤ length (now (c .args .coefficients)) → t * d ≤ length out
+  room t h =
+      let p = c .pre in
+      omega (arith, p .1 .1 .1 .1 .0 .translated, room-for-terms (p .0) (p .1 .0) (p .1 .1 .0) t (omega (arith, p .1 .1 .1 .0 .few)))
+
+  -- what the invariant says of the list's length
+  long : (t : ℕ) {a : List ℤ} → t ≤ length (now (c .args .coefficients)) → a ≡ begun d (exponentsOf P f) out t → length a ≡ length out
+  long t h e = ap length e ∙ length-begun d (exponentsOf P f) out t (room t h)
+
+-- ---- a turn
+module _ (c : tie.After-k-and Inv-loop μ-loop) where
+  abbrev entry : tie.Start Inv-loop μ-loop
+  entry = c .before .before .before .before .before
+
+  abbrev t : ℕ
+  t = c .before .before .before .loop .done
+
+  turn-room : t * d entry + d entry ≤ length (c .before .before .before .loop .out)
+  turn-room =
+      let l = c .before .before .before .loop in
+      omega (arith, room entry (suc t) (c .before .before .loop-test .taken), long entry t (l .inv .0) (l .inv .1))
+
+  place-fits : Fits w64 (t * d entry)
+  place-fits =
+      let p = entry .pre in
+      omega (arith, room-for-terms (p .0) (p .1 .0) (p .1 .1 .0) t (omega (arith, p .1 .1 .1 .0 .few)))
+
+add-cols : tie.Need-add-cols Inv-loop μ-loop
+add-cols c = let p = c .before .pre in omega (arith, few-cols (p .0) (p .1 .0) (p .1 .1 .0))
+
+sub-d : tie.Need-sub-d Inv-loop μ-loop
+sub-d c = let p = c .before .pre in rank-in (p .0) (p .1 .0) (p .1 .1 .0)
+
+loop-holds : tie.Need-loop-holds Inv-loop μ-loop
+loop-holds c = let s = c .before in (omega arith, sym (begun-none (d s) (exponentsOf (P s) (f s)) (out s)), refl, refl)
+
+mul-kept : tie.Need-mul-kept Inv-loop μ-loop
+mul-kept c = search needs
+
+shared-slice-copy-out-kept : tie.Need-shared-slice-copy-out-kept Inv-loop μ-loop
+shared-slice-copy-out-kept c = search needs
+
+mul-t19 : tie.Need-mul-t19 Inv-loop μ-loop
+mul-t19 c = let p = c .before .before .before .before .pre in omega (arith, c .before .loop-test .taken, p .1 .1 .1 .0 .few)
+
+slice-set-from-kept : tie.Need-slice-set-from-kept Inv-loop μ-loop
+slice-set-from-kept c =
+    let p = c .before .before .before .before .pre in
+    omega (arith, c .before .loop-test .taken, p .1 .1 .1 .0 .few, p .1 .1 .1 .1 .0 .kept, c .before .before .loop .inv .2)
+
+mul-k-and : tie.Need-mul-k-and Inv-loop μ-loop
+mul-k-and c =
+    let p = c .before .before .before .before .pre in
+    omega (arith, term-place (p .0) (p .1 .1 .1 .0) (c .before .before .loop .done) (c .before .loop-test .taken))
+
+k-and-requires : tie.Need-k-and-requires Inv-loop μ-loop
+k-and-requires c κs =
+    let p = c .before .before .before .before .pre in
+    (p .0, (p .1 .0, term-monomial (p .0) (p .1 .1 .1 .0) (c .before .before .loop .done) (c .before .loop-test .taken)))
+
+mul-translate-term : tie.Need-mul-translate-term Inv-loop μ-loop
+mul-translate-term c = place-fits (c .before)
+
+translate-term-requires : tie.Need-translate-term-requires Inv-loop μ-loop
+translate-term-requires c κs =
+    let k = c .before in
+    let p = entry k .pre in (
+      rows-in (p .0) (p .1 .0) (p .1 .1 .0) (k .k-and .ensures),
+      (
+        taken-passes (p .0) (p .1 .0) (p .1 .1 .0) (k .k-and .ensures) (p .1 .1 .1 .1 .1 .each (t k) (k .before .before .loop-test .taken)),
+        turn-room k,
+      ),
+    )
+
+add-done : tie.Need-add-done Inv-loop μ-loop
+add-done c = search needs
+
+loop-less : tie.Need-loop-less Inv-loop μ-loop
+loop-less c = search needs
+
+loop-again : tie.Need-loop-again Inv-loop μ-loop
+loop-again c =
+    let k = c .before .before .before in
+    let s = entry k in
+    let p = s .pre in
+    let A = exponentsOf (P s) (f s) in
+    let row = exponent-is (p .0) (p .1 .0) (p .1 .1 .0) (k .k-and .ensures) in
+    let l = k .before .before .before .loop in (
+      omega (arith, k .before .before .loop-test .taken),
+      rw (c .before .translate-term .ensures) (begun-turn (d s) A (out s) (t k) _ row (l .inv .1)),
+      length-set (l .kept) _ _ ∙ l .inv .2,
+      front-turn _ _ (l .done) (l .inv .3) (toZ-ofZ {w = w32} (record { sfits = k .before .kept .given })) (omega (arith, k .before .before .loop-test .taken, p .1 .1 .1 .0 .few, p .1 .1 .1 .1 .0 .kept)),
+    )
+
+same-length : tie.Need-same-length Inv-loop μ-loop
+same-length c = c .before .loop .inv .2
+
+same-length-2 : tie.Need-same-length-2 Inv-loop μ-loop
+same-length-2 c = let l = c .before .loop in long (c .before .before .before) (l .done) (l .inv .0) (l .inv .1)
+
+returns : tie.Need-returns Inv-loop μ-loop
+unfolding translatedExponents
+returns c =
+    let s = c .before .before .before in
+    let p = s .pre in
+    let A = exponentsOf (P s) (f s) in
+    let all : c .before .loop .done ≡ terms (f s) = omega arith in
+    let groups = groups-are (p .0) (p .1 .0) (p .1 .1 .0) in
+    let g = groupCount (P s) (run (P s)) in
+    let cs = now (s .args .coefficients) in (
+      (rw all at (c .before .loop .inv .3)) ∙ filled-front (length cs) cs (now (s .args .kept)) (pos 0) (omega arith) ∙ ap (λ l. filled l (now (s .args .kept))) (take-length cs),
+      (rw all at (c .before .loop .inv .1))
+          ∙ ap (λ k. begun k A (out s) (terms (f s))) groups
+          ∙ ap (λ k. grid (terms (f s)) g A ++ drop k (out s)) (sym (length-grid (terms (f s)) g A)),
+    )
+
+pub translate-all-spec : {M : Type 1} → statement M
+translate-all-spec =
+    tie.close
+    (tie.spec
+    Inv-loop
+    μ-loop
+    add-cols
+    sub-d
+    loop-holds
+    mul-kept
+    shared-slice-copy-out-kept
+    mul-t19
+    slice-set-from-kept
+    mul-k-and
+    k-and-requires
+    mul-translate-term
+    translate-term-requires
+    add-done
+    loop-less
+    loop-again
+    same-length
+    same-length-2
+    returns)
