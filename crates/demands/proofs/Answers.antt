@@ -19,7 +19,8 @@ use Rattle.rules.specs.Problem.{Problem, WellFormed, s, N, columns}
 use Rattle.rules.specs.Forms.{Right}
 use Rattle.rules.specs.Steps.{start}
 use Rattle.rules.specs.Stages.{run, H, U, W}
-use Rattle.rules.specs.Calls.{Check, Verdict, taken, rangeCheck, buildVerdict, buildOf, built, problemFits, contentsH, contentsV, contentsW}
+use Rattle.rules.specs.Calls.{Check, Verdict, taken, rangeCheck, buildVerdict, buildOf, built, problemFits, contentsH, contentsV, contentsW, checksTo5}
+use Rattle.theory.proofs.SameEntries.{normal-same}
 use Rattle.theory.proofs.Grid.{table, length-grid, table-filled}
 use Rattle.theory.proofs.Accepted.{AllPass}
 use Rattle.theory.proofs.Unique.{Alike, normal-unique}
@@ -29,12 +30,11 @@ use Rattle.theory.proofs.Sequence.{Steps, written, steps-counted}
 use Rattle.theory.proofs.Sequence as sequence
 use Rattle.theory.proofs.Flag.{SomeBeyond, over-exactly}
 use Rattle.scaling.specs.declared.BuildAnswer.{BuildAnswer}
-use Rattle.scaling.specs.Checks.{problemChecks}
 use Rattle.scaling.specs.Answers.{Builds, RoomToBuild}
 use Rattle.demands.proofs.Order.{DecidedBy, all-pass-append, taken-exactly}
 use Rattle.demands.proofs.Limits.{five-exactly, flag-exactly, build-room-exactly}
 use Rattle.demands.proofs.Refusals.{checksOfBuild, build-ordered}
-use Rattle.demands.proofs.Buffers.{KeepsRest, filled-keeps, normal-same}
+use Rattle.demands.proofs.Buffers.{KeepsRest, filled-keeps}
 
 -- ---- which problems are accepted
 -- well formed, and no step of the build writes a value beyond M (the run's flag is set exactly when one does: Table.row-7, and range-exactly below)
@@ -65,7 +65,7 @@ pub record Answered (P : Problem) (h v w : List ℤ) (r : BuildAnswer) (h₁ v�
 -- ---- the checks of a build, from what they ask
 module _ (P : Problem) (h v w : List ℤ) where
   abbrev five : List Check
-  five = problemChecks P (problemFits P) (leb roomH (length h) && leb roomV (length v) && leb roomW (length w))
+  five = checksTo5 P (problemFits P) (leb roomH (length h) && leb roomV (length v) && leb roomW (length w))
 
   five-pass-exactly : AllPass five ↔ (WellFormed P × Unit {0} × RoomToBuild h v w)
   five-pass-exactly =

@@ -2,7 +2,7 @@
 -- buffer is as it was. (bytesOf writes, numbersOf reads: rules/specs/Bytes.)
 use mathlib.Core.Path.{_≡_, sym, _∙_, ap, ap₂, subst}
 use mathlib.Core.Bool.{Bool, false}
-use mathlib.Core.List.{List, [], _∷_, _++_}
+use mathlib.Core.List.{List, [], _∷_, _++_, append-nil}
 use Prim.Native.Nat.{ℕ, zero, suc, _+_, _-_, _*_, _/_, _%_, _^_, _≤_, _<_}
 use native.Mathlib.Nat.{div-add-mod', div-div-eq-div-mul, div-lt-iff-lt-mul, mod-eq-of-lt, mod-lt}
 use native.Mathlib.Omega.{arith}
@@ -38,7 +38,7 @@ within-fits {z} h = fits w32 z (omega arith)
 four-digits : (x a b c p q s : ℕ) → a * 256 + p ≡ x → b * 256 + q ≡ a → c * 256 + s ≡ b → 16_777_216 * c + 65_536 * s + 256 * q + p ≡ x
 four-digits x a b c p q s e f g = omega arith
 
-read-four : (x : ℕ) → x < 2 ^ 32
+pub read-four : (x : ℕ) → x < 2 ^ 32
     → 16_777_216 * (x / 16_777_216 % 256) + 65_536 * (x / 65_536 % 256) + 256 * (x / 256 % 256) + x % 256 ≡ x
 read-four x h =
     let a = x / 256 in
@@ -60,6 +60,13 @@ read-written [] f k rest = let e : 0 + k ≡ k = omega arith in rw e
 read-written (z ∷ zs) f k rest =
     let e : suc (length zs) + k ≡ suc (length zs + k) = omega arith in
     rw e (ap₂ _∷_ (read-written-one z (bytesOf zs ++ rest) (f 0 (omega arith))) (read-written zs (λ i l. f (suc i) (omega arith)) k rest))
+
+-- .. and with none
+pub numbers-back : (zs : List ℤ) → AllFit zs → numbersOf (bytesOf zs) ≡ zs
+unfolding longs
+numbers-back zs f =
+    let e : numbersIn (bytesOf zs) ≡ length zs + 0 = omega (arith, length-bytes zs) in
+    ap₂ longs e (sym (append-nil (bytesOf zs))) ∙ read-written zs f 0 [] ∙ append-nil zs
 
 -- the numbers after the first count
 drop-longs : (count k : ℕ) (bs : List ℕ) → longs k (drop (4 * count) bs) ≡ drop count (longs (count + k) bs)
@@ -98,7 +105,7 @@ read-fits x = go (lt? x (2 ^ 31))
     go (pass h) = record { sfits = h }
     go (fail h) = record { sfits = omega arith }
 
-long-fits : (bs : List ℕ) → SFits w32 (long bs)
+pub long-fits : (bs : List ℕ) → SFits w32 (long bs)
 unfolding long
 long-fits bs = read-fits (16_777_216 * byteAt bs 0 + 65_536 * byteAt bs 1 + 256 * byteAt bs 2 + byteAt bs 3)
 

@@ -28,8 +28,9 @@ use Rattle.theory.proofs.Accepted.{AllPass}
 use Rattle.theory.proofs.Run.{run-right}
 use Rattle.theory.proofs.Sizes.{room-for-exponents}
 use Rattle.scaling.specs.declared.BuildAnswer.{BuildAnswer}
-use Rattle.scaling.specs.declared.TranslateAnswer.{TranslateAnswer}
+use Rattle.formulas.specs.declared.TranslateAnswer.{TranslateAnswer}
 use Rattle.scaling.specs.Answers as scaling
+use Rattle.formulas.specs.Answers as formulas
 use Rattle.bench.specs.Answers.{Builds, Translates}
 use Rattle.bench.proofs.Bytes.{length-longs}
 use Rattle.demands.proofs.Order.{taken-exactly, refused-exactly, TermDecides, translateChecks, translate-not-0}
@@ -183,7 +184,7 @@ module _ (m n : ℕ) (matrix moduli cs es kept out : List ℕ) (a : TranslateAns
 
   -- a call whose byte lengths are multiples of four is the call `translate` on the numbers that the bytes are
   pub c-translate-is-translate : WholeToTranslate matrix moduli cs es kept out
-      → scaling.Translates (translateOf (problemOf m n matrix moduli) (formulaOf cs es) (numbersOf kept) (numbersOf out)) a (numbersOf kept₁) (numbersOf out₁)
+      → formulas.Translates (translateOf (problemOf m n matrix moduli) (formulaOf cs es) (numbersOf kept) (numbersOf out)) a (numbersOf kept₁) (numbersOf out₁)
   unfolding translateOf translateVerdict
   c-translate-is-translate F =
       go (verdict onNumbers) refl (subst (λ (x : Verdict). Translates (benchTranslated P f kept out x) a kept₁ out₁) (verdict-same F) by-verdict)
@@ -192,7 +193,7 @@ module _ (m n : ℕ) (matrix moduli cs es kept out : List ℕ) (a : TranslateAns
       onNumbers = checksOfTranslate P f (numbersOf kept) (numbersOf out)
 
       go : (x : Verdict) → verdict onNumbers ≡ x → Translates (benchTranslated P f kept out x) a kept₁ out₁
-          → scaling.Translates (translatedTo P f (numbersOf kept) (numbersOf out) x) a (numbersOf kept₁) (numbersOf out₁)
+          → formulas.Translates (translatedTo P f (numbersOf kept) (numbersOf out) x) a (numbersOf kept₁) (numbersOf out₁)
       go taken e B =
           let A = all-pass-exactly P f (numbersOf kept) (numbersOf out) .0 (taken-exactly onNumbers .0 e) in
           let L = (A .0 .accepted .well-formed) in
@@ -271,7 +272,7 @@ module _ (m n : ℕ) (matrix moduli cs es kept out : List ℕ) (a : TranslateAns
     built-numbers =
         c-build-is-build m n matrix moduli h v w r h₁ v₁ w₁ builds (c-build-whole m n matrix moduli h v w r h₁ v₁ w₁ builds built)
 
-    translated-numbers : scaling.Translates (translateOf P f (numbersOf kept) (numbersOf out)) a (numbersOf kept₁) (numbersOf out₁)
+    translated-numbers : formulas.Translates (translateOf P f (numbersOf kept) (numbersOf out)) a (numbersOf kept₁) (numbersOf out₁)
     translated-numbers = c-translate-is-translate (c-translate-whole done)
 
     -- "Put each group's exponents back where the group stands, and the first formula returns, term for term"

@@ -24,7 +24,7 @@ use Rattle.rules.specs.Search.{Found, none, found}
 use Rattle.rules.specs.Problem.{Problem, WellFormed, s, N}
 use Rattle.rules.specs.Stages.{run, H, U, W}
 use Rattle.rules.specs.Formulas.{Free, Formula, terms, term, WellFormedFormula, d, translated, group}
-use Rattle.rules.specs.Calls.{Check, Verdict, taken, exponentsCheck, rangeCheck, termsCheck, translateVerdict, translateOf, translatedTo, translatedExponents, problemFits, formulaFits, buildOf}
+use Rattle.rules.specs.Calls.{Check, Verdict, taken, exponentsCheck, rangeCheck, termsCheck, translateVerdict, translateOf, translatedTo, translatedExponents, problemFits, formulaFits, buildOf, checksTo5}
 use Rattle.theory.proofs.Grid.{table, length-grid, table-filled}
 use Rattle.theory.proofs.Accepted.{AllPass, exponents-small}
 use Rattle.theory.proofs.Sizes.{room-for-exponents}
@@ -32,9 +32,9 @@ use Rattle.theory.proofs.Unique.{Alike}
 use Rattle.theory.proofs.Run.{run-right}
 use Rattle.theory.proofs.Translation.{translated-back, translated-only, free-of-groups, ofGroups}
 use Rattle.scaling.specs.declared.BuildAnswer.{BuildAnswer}
-use Rattle.scaling.specs.declared.TranslateAnswer.{TranslateAnswer}
-use Rattle.scaling.specs.Checks.{problemChecks}
-use Rattle.scaling.specs.Answers.{Builds, Translates, RoomToTranslate}
+use Rattle.formulas.specs.declared.TranslateAnswer.{TranslateAnswer}
+use Rattle.scaling.specs.Answers.{Builds}
+use Rattle.formulas.specs.Answers.{Translates, RoomToTranslate}
 use Rattle.demands.proofs.Order.{all-pass-append, taken-exactly, TermDecides, term-decides-exactly, all-terms-exactly}
 use Rattle.demands.proofs.Limits.{and-exactly, five-exactly, formula-fits-exactly, flag-exactly, translate-room-exactly}
 use Rattle.demands.proofs.Table.{row-6}
@@ -67,7 +67,7 @@ pub record FormulaTranslated (P : Problem) (f : Formula) (kept out : List ℤ) (
 -- ---- the checks of a translation, from what they ask
 module _ (P : Problem) (f : Formula) (kept out : List ℤ) where
   abbrev five : List Check
-  five = problemChecks P (problemFits P && formulaFits P f) (leb roomCoefficients (length kept) && leb roomExponents (length out))
+  five = checksTo5 P (problemFits P && formulaFits P f) (leb roomCoefficients (length kept) && leb roomExponents (length out))
 
   five-pass-exactly : AllPass five ↔ (WellFormed P × ((length (f .exponents) ≡ terms f * P .n) × (terms f ≤ 64)) × RoomToTranslate kept out)
   five-pass-exactly =
@@ -167,6 +167,14 @@ groupIn P r v₁ g j = nth v₁ ((r .moduli + j) * width P r + (r .rank + g))
 abbrev pub backIn : Problem → BuildAnswer → (v₁ : List ℤ) → (groups : ℕ) → (e : ℕ → ℤ) → (j : ℕ) → ℤ
 backIn P r v₁ groups e j = sum groups (λ g. groupIn P r v₁ g j *ℤ e g)
 
+-- groups that are those of the run, wherever they were read, to the same exponents
+pub back-same : (P : Problem) (groups : ℕ) (its-groups e e′ : ℕ → ℤ) (j : ℕ) → groups ≡ d P (run P)
+    → ((g : ℕ) → g < groups → its-groups g ≡ group P (run P) g j) → ((g : ℕ) → g < groups → e g ≡ e′ g)
+    → sum groups (λ g. its-groups g *ℤ e g) ≡ ofGroups P (run P) e′ j
+back-same P groups its-groups e e′ j count are same =
+    sum-cong groups (λ g. its-groups g *ℤ e g) (λ g. group P (run P) g j *ℤ e′ g) (λ g c. ap₂ _*ℤ_ (are g c) (same g c))
+    ∙ ap (λ (k : ℕ). sum k (λ g. group P (run P) g j *ℤ e′ g)) count
+
 -- a build with the number 0
 module _ (P : Problem) (h v w : List ℤ) (r : BuildAnswer) (h₁ v₁ w₁ : List ℤ) (builds : Builds (buildOf P h v w) r h₁ v₁ w₁) (built : r .number ≡ 0) where
   ends-alike : Alike (P .m) (width P r) (run P .rank) (r .rank) (H (run P)) (table (width P r) h₁) (U (run P)) (table (width P r) v₁)
@@ -187,10 +195,7 @@ module _ (P : Problem) (h v w : List ℤ) (r : BuildAnswer) (h₁ v₁ w₁ : Li
 
   back-is : (e e′ : ℕ → ℤ) → ((g : ℕ) → g < width P r - r .rank → e g ≡ e′ g) → (j : ℕ) → j < P .n
       → backIn P r v₁ (width P r - r .rank) e j ≡ ofGroups P (run P) e′ j
-  back-is e e′ same j b =
-      sum-cong (width P r - r .rank) (λ g. groupIn P r v₁ g j *ℤ e g) (λ g. group P (run P) g j *ℤ e′ g)
-      (λ g c. ap₂ _*ℤ_ (group-is g j c b) (same g c))
-      ∙ ap (λ (k : ℕ). sum k (λ g. group P (run P) g j *ℤ e′ g)) groups-are
+  back-is e e′ same j b = back-same P (width P r - r .rank) (λ g. groupIn P r v₁ g j) e e′ j groups-are (λ g c. group-is g j c b) same
 
   -- a monomial is free of dimension exactly when the groups to some whole exponents give it
   pub free-exactly : (m : ℕ → ℤ)

@@ -17,12 +17,12 @@ use Rattle.rules.specs.Search.{none}
 use Rattle.rules.specs.Problem.{Problem, WellFormed}
 use Rattle.rules.specs.Stages.{Run}
 use Rattle.rules.specs.Formulas.{Formula, terms}
-use Rattle.rules.specs.Calls.{unless, firstOut, rangeCheck, problemFits, formulaFits}
+use Rattle.rules.specs.Calls.{unless, firstOut, rangeCheck, problemFits, formulaFits, checksTo5}
 use Rattle.whole.proofs.Tests.{and-both}
 use Rattle.theory.proofs.Limits.{between, small}
 use Rattle.theory.proofs.Accepted.{AllPass, unless-none, none-out}
-use Rattle.scaling.specs.Checks.{problemChecks}
-use Rattle.scaling.specs.Answers.{RoomToBuild, RoomToTranslate}
+use Rattle.scaling.specs.Answers.{RoomToBuild}
+use Rattle.formulas.specs.Answers.{RoomToTranslate}
 use Rattle.theory.proofs.Accepted.{Sizes, sizes-passed, lengths-passed}
 use Rattle.demands.proofs.Order.{none-out-exactly}
 
@@ -149,7 +149,7 @@ well-formed-exactly P = (to, back)
 
 -- ---- checks 1 to 5 of a call pass exactly when the problem is well formed, the other inputs have the right lengths and the outputs have room
 pub five-exactly : (P : Problem) (inputs outputs : Bool) {More Room : Type 0} → (inputs ≡ true) ↔ ((problemFits P ≡ true) × More)
-    → (outputs ≡ true) ↔ Room → AllPass (problemChecks P inputs outputs) ↔ (WellFormed P × More × Room)
+    → (outputs ≡ true) ↔ Room → AllPass (checksTo5 P inputs outputs) ↔ (WellFormed P × More × Room)
 five-exactly P inputs outputs i o = (
   λ a.
       let x = i .0 (unless-none inputs (a .1 .0)) in

@@ -18,14 +18,13 @@ use Rattle.rules.specs.Search.{Found, none, found, first}
 use Rattle.rules.specs.Problem.{Problem}
 use Rattle.rules.specs.Stages.{Run, run}
 use Rattle.rules.specs.Formulas.{Free, passes, d, translated, Formula, terms, term}
-use Rattle.rules.specs.Calls.{Check, Verdict, taken, refused, verdict, firstOut, exponentsCheck, rangeCheck, termsCheck, termsFault, termRefused, termNumber}
+use Rattle.rules.specs.Calls.{Check, Verdict, taken, refused, verdict, firstOut, exponentsCheck, rangeCheck, termsCheck, termsFault, termRefused, termNumber, checksTo5}
 use Rattle.rules.specs.Calls.{buildVerdict, weighVerdict, translateVerdict}
 use Rattle.theory.proofs.Search.{In, Nowhere, none?, FirstIs, no-first, is-first, first-is, first-nowhere}
 use Rattle.theory.proofs.Weights.{isFree?, isFree-yes, isFree-no}
 use Rattle.whole.proofs.Tests.{passed, failed}
 use Rattle.theory.proofs.Accepted.{AllPass, all-pass, taken-of-all, TermAccepted}
 use Rattle.theory.proofs.Refusals as refusals
-use Rattle.scaling.specs.Checks.{problemChecks}
 
 -- ---- the first check that finds a fault decides
 -- a check of the list has this number and finds its fault at this place, and no check before it finds any
@@ -115,6 +114,18 @@ one-refusal cs k p k′ p′ D D′ =
     let e = decided cs k p D in
     let e′ = decided cs k′ p′ D′ in
     (cc, cc)
+
+-- what holds of the number and place of every check that finds a fault holds of those that decide
+abbrev pub EachFault : (ℕ → ℕ → Type 0) → List Check → Type 0
+EachFault Q [] = Unit {0}
+EachFault Q (c ∷ cs) = ((place : ℕ) → c .fault ≡ found place → Q (c .number) place) × EachFault Q cs
+
+pub decider-has : (Q : ℕ → ℕ → Type 0) (cs : List Check) → EachFault Q cs → (k p : ℕ) → DecidedBy cs k p → Q k p
+decider-has Q cs all k p D = rw (← D .its-number) (go (D .before) (rw (D .listed) at all))
+  where
+    go : (before : List Check) → EachFault Q (before ++ D .check ∷ D .after) → Q (D .check .number) p
+    go [] a = a .0 p (D .its-place)
+    go (b ∷ before) a = go before (a .1)
 
 -- ---- places: "first such row", "first such entry, row after row", "first such exponent", "first term refused"
 -- the test holds at i and at no lower index
@@ -274,14 +285,14 @@ module _ (P : Problem) (u : Run) where
 
 -- ---- the checks of each call, in order
 abbrev pub buildChecks : Problem → (inputs outputs : Bool) → List Check
-buildChecks P inputs outputs = problemChecks P inputs outputs ++ rangeCheck (run P) ∷ []
+buildChecks P inputs outputs = checksTo5 P inputs outputs ++ rangeCheck (run P) ∷ []
 
 abbrev pub weighChecks : Problem → (exponents : List ℤ) → (inputs outputs : Bool) → List Check
-weighChecks P es inputs outputs = problemChecks P inputs outputs ++ exponentsCheck es ∷ []
+weighChecks P es inputs outputs = checksTo5 P inputs outputs ++ exponentsCheck es ∷ []
 
 abbrev pub translateChecks : Problem → Formula → (inputs outputs : Bool) → List Check
 translateChecks P f inputs outputs =
-    problemChecks P inputs outputs ++ exponentsCheck (f .exponents) ∷ rangeCheck (run P) ∷ termsCheck P (run P) f ∷ []
+    checksTo5 P inputs outputs ++ exponentsCheck (f .exponents) ∷ rangeCheck (run P) ∷ termsCheck P (run P) f ∷ []
 
 pub build-checks : (P : Problem) (inputs outputs : Bool) → buildVerdict P inputs outputs ≡ verdict (buildChecks P inputs outputs)
 unfolding buildVerdict

@@ -16,11 +16,10 @@ use Rattle.whole.proofs.Lists.{length-tab, nth-tab}
 use Rattle.rules.specs.Limits.{roomWeights}
 use Rattle.rules.specs.Problem.{Problem, WellFormed}
 use Rattle.rules.specs.Formulas.{weight, Free}
-use Rattle.rules.specs.Calls.{Check, Verdict, taken, problemFits, exponentsCheck, weighVerdict, weighOf, weighed, weights}
+use Rattle.rules.specs.Calls.{Check, Verdict, taken, problemFits, exponentsCheck, weighVerdict, weighOf, weighed, weights, checksTo5}
 use Rattle.theory.proofs.Accepted.{AllPass, exponents-small}
-use Rattle.scaling.specs.declared.WeighAnswer.{WeighAnswer}
-use Rattle.scaling.specs.Checks.{problemChecks}
-use Rattle.scaling.specs.Answers.{Weighs}
+use Rattle.formulas.specs.declared.WeighAnswer.{WeighAnswer}
+use Rattle.formulas.specs.Answers.{Weighs}
 use Rattle.demands.proofs.Order.{all-pass-append, taken-exactly}
 use Rattle.demands.proofs.Limits.{and-exactly, at-least, five-exactly}
 use Rattle.demands.proofs.Table.{row-6}
@@ -42,7 +41,7 @@ pub record WeightsIn (P : Problem) (es out out₁ : List ℤ) : Type 0 where
 
 module _ (P : Problem) (es out : List ℤ) where
   abbrev five : List Check
-  five = problemChecks P (problemFits P && eqb (length es) (P .n)) (leb roomWeights (length out))
+  five = checksTo5 P (problemFits P && eqb (length es) (P .n)) (leb roomWeights (length out))
 
   five-pass-exactly : AllPass five ↔ (WellFormed P × (length es ≡ P .n) × (8 ≤ length out))
   five-pass-exactly =
