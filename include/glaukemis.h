@@ -23,9 +23,10 @@
  * STATE AND THREADS. The calls keep no state. They may be made from several threads at once, so long as no thread writes a buffer that
  * another one is reading or writing.
  *
- * STACK. A call takes at most 0.6 MB of stack, on any input: 76,176 bytes, and 10,936 more for each sixteen repetitions of document
- * 01's (A) within one row, of which there are at most 744. The deepest problem that our search found takes 29 repetitions, so 0.1 MB.
- * (The bytes were read off the compiled code for x86-64; the bound of 744 is proved.) glaukemis_gauge makes one build.
+ * STACK. A call takes less than 0.81 MB of stack, on any input, so that 1 MB is enough: at most 81,920 bytes and 10,912 more for each
+ * repetition of document 01's (A) within one row, of which there are at most 66. The deepest problem known takes 50 repetitions, and with
+ * it 627,520 bytes; without any a call takes at most 76,432. (The bytes were measured, docs/stack.sh, of the library for x86-64; that there
+ * are at most 66 is proved.)
  */
 #ifndef GLAUKEMIS_H
 #define GLAUKEMIS_H

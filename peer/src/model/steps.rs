@@ -59,6 +59,15 @@ pub struct Extremes {
     pub most: i128,
 }
 
+/// The row in which (A) was repeated most often: how often, and where; the first
+/// such row of the run.
+#[derive(Clone, Copy, Debug, PartialEq, Eq)]
+pub struct Deepest {
+    pub repetitions: u64,
+    pub stage: Stage,
+    pub row: usize,
+}
+
 /// A run was ended early.
 #[derive(Debug)]
 struct Stopped;
@@ -73,6 +82,8 @@ pub struct Work {
     /// The extremes of T, V and W so far.
     pub extremes: [Extremes; 3],
     pub first_beyond: Option<FirstBeyond>,
+    /// None if (A) was never repeated.
+    pub deepest: Option<Deepest>,
     until: Until,
 }
 
@@ -109,6 +120,7 @@ impl Work {
             steps: 0,
             extremes: [Extremes::default(); 3],
             first_beyond: None,
+            deepest: None,
             until,
         };
         for j in 0..size {
@@ -220,6 +232,17 @@ impl Work {
         self.judge(stage)
     }
 
+    /// Takes so many repetitions of (A) in one row into the deepest.
+    fn note_repetitions(&mut self, repetitions: u64, stage: Stage, row: usize) {
+        if repetitions > self.deepest.map_or(0, |deepest| deepest.repetitions) {
+            self.deepest = Some(Deepest {
+                repetitions,
+                stage,
+                row,
+            });
+        }
+    }
+
     /// The entry of T (stage 1) or of V (stages 2 and 3).
     fn entry(&self, of: Of, row: usize, column: usize) -> i128 {
         match of {
@@ -246,6 +269,7 @@ impl Work {
             return Ok(a);
         }
         // (A)
+        let mut repetitions = 0;
         let p = loop {
             // "the smallest non-zero absolute value in that row, lowest column
             // on a tie": min_by_key gives the first of equals.
@@ -259,6 +283,8 @@ impl Work {
             };
             // Rust's division cuts toward zero.
             let q = -(self.entry(of, row, j) / self.entry(of, row, p));
+            repetitions += 1;
+            self.note_repetitions(repetitions, stage_a, row);
             self.add(q, p, j, stage_a)?;
         };
         // (B); document 01's column a is `last` here.

@@ -1,0 +1,272 @@
+/* Measures the stack that the C calls take. Each call is made on a stack of its own, painted before. What lies between its top and the
+   lowest byte that was written is what the call took, less the same of an empty function that is called in its place with the same
+   arguments. Reads the problems that `depth` prints (src/bin/depth.rs), and prints what docs/stack.sh tells. An answer other than the
+   second program's ends it with status 1. */
+#define _GNU_SOURCE
+#include <stdint.h>
+#include <stdio.h>
+#include <stdlib.h>
+#include <string.h>
+#include <sys/mman.h>
+#include <ucontext.h>
+#include "glaukemis.h"
+
+enum { STACK = 4 << 20, GUARD = 64 << 10, ROWS = 8, QUANTITIES = 16, TERMS = 64, PROBLEMS = 64, CALLS = 3 };
+
+/* The proved most of repetitions of (A) in a row. */
+enum { BOUND = 66 };
+
+/* A line of `depth`. */
+struct problem {
+    char name[64];
+    int repetitions, stage, row;
+    uint32_t rank, steps, gauge, m, n;
+    int32_t moduli[ROWS], matrix[ROWS * QUANTITIES];
+};
+
+static const char *const call_name[CALLS] = {"build", "translate", "gauge"};
+
+static struct problem problems[PROBLEMS];
+static long bytes[PROBLEMS][CALLS]; /* what each call took on each problem */
+static int count;
+
+static uint8_t *stack; /* the painted one, from its lowest byte */
+
+/* What the calls are lent, and what they answered. */
+static const struct problem *given;
+static uint8_t matrix[4 * ROWS * QUANTITIES], moduli[4 * ROWS];
+static uint8_t h[GLAUKEMIS_H_BYTES], v[GLAUKEMIS_V_BYTES], w[GLAUKEMIS_W_BYTES];
+static uint8_t coefficients[4 * TERMS], exponents[4 * TERMS * QUANTITIES]; /* all 0, and so free of dimension */
+static uint8_t kept[GLAUKEMIS_COEFFICIENTS_BYTES], translated[GLAUKEMIS_EXPONENTS_BYTES];
+static double readings[QUANTITIES];
+static glaukemis_build_answer built;
+static glaukemis_translate_answer changed;
+static glaukemis_gauge_answer gauged;
+
+/* The empty functions. */
+#pragma GCC diagnostic push
+#pragma GCC diagnostic ignored "-Wunused-parameter"
+#define EMPTY __attribute__((noipa)) static
+EMPTY glaukemis_build_answer empty_build(
+    uint32_t m, uint32_t n, const uint8_t *a, size_t al, const uint8_t *p, size_t pl, uint8_t *x, size_t xl, uint8_t *y, size_t yl,
+    uint8_t *z, size_t zl)
+{
+    return (glaukemis_build_answer){0};
+}
+EMPTY glaukemis_translate_answer empty_translate(
+    uint32_t m, uint32_t n, const uint8_t *a, size_t al, const uint8_t *p, size_t pl, const uint8_t *c, size_t cl, const uint8_t *e,
+    size_t el, uint8_t *k, size_t kl, uint8_t *t, size_t tl)
+{
+    return (glaukemis_translate_answer){0};
+}
+EMPTY glaukemis_gauge_answer empty_gauge(
+    uint32_t m, uint32_t n, const int32_t *a, size_t al, const int32_t *p, size_t pl, const double *r, size_t rl, uint32_t group)
+{
+    return (glaukemis_gauge_answer){0};
+}
+#pragma GCC diagnostic pop
+
+/* The functions that are called now: those of the library, or the empty ones. */
+static __typeof__(glaukemis_build) *build;
+static __typeof__(glaukemis_translate) *translate;
+static __typeof__(glaukemis_gauge) *gauge;
+
+static void do_build(void)
+{
+    built = build(given->m, given->n, matrix, 4 * given->m * given->n, moduli, 4 * given->m, h, sizeof h, v, sizeof v, w, sizeof w);
+}
+static void do_translate(void)
+{
+    changed = translate(given->m, given->n, matrix, 4 * given->m * given->n, moduli, 4 * given->m, coefficients, sizeof coefficients,
+        exponents, 4 * TERMS * given->n, kept, sizeof kept, translated, sizeof translated);
+}
+static void do_gauge(void)
+{
+    gauged = gauge(given->m, given->n, given->matrix, given->m * given->n, given->moduli, given->m, readings, given->n, 0);
+}
+static void (*const work[CALLS])(void) = {do_build, do_translate, do_gauge};
+
+static void fail(const char *what)
+{
+    fprintf(stderr, "stack: %s\n", what);
+    exit(1);
+}
+
+/* Makes a call on the painted stack. */
+static void on_stack(void (*call)(void))
+{
+    static ucontext_t here, there;
+    if (getcontext(&there) != 0)
+        fail("no context");
+    there.uc_stack.ss_sp = stack;
+    there.uc_stack.ss_size = STACK;
+    there.uc_link = &here;
+    makecontext(&there, call, 0);
+    if (swapcontext(&here, &there) != 0)
+        fail("no stack of its own");
+}
+
+/* The bytes from the top of the painted stack to the lowest one that a call wrote. That may be the paint itself: so there are two paints. */
+static long used(void (*call)(void))
+{
+    long most = 0;
+    for (int turn = 0; turn < 2; turn++) {
+        uint8_t paint = turn ? 0xa5 : 0x5a;
+        memset(stack, paint, STACK);
+        on_stack(call);
+        long low = 0;
+        while (low < STACK && stack[low] == paint)
+            low++;
+        if (STACK - low > most)
+            most = STACK - low;
+    }
+    return most;
+}
+
+/* Ends the program unless the last call on the given problem answered what it should. */
+static void see(int call)
+{
+    uint32_t s = 0;
+    for (uint32_t i = 0; i < given->m; i++)
+        s += given->moduli[i] != 0;
+    int right[CALLS] = {
+        built.number == 0 && built.place == 0 && built.rank == given->rank && built.moduli == s && built.steps == given->steps,
+        changed.number == 0 && changed.place == 0 && changed.d == given->n + s - given->rank,
+        gauged.number == given->gauge && gauged.place == 0 && gauged.value == (given->gauge == 0 ? 1.0 : 0.0)};
+    if (!right[call]) {
+        fprintf(stderr, "stack: %s answered other than it should, on %s with %d repetitions\n", call_name[call], given->name,
+            given->repetitions);
+        exit(1);
+    }
+}
+
+/* Each number is four bytes, big-endian two's complement. */
+static void put(uint8_t *to, const int32_t *numbers, size_t length)
+{
+    for (size_t i = 0; i < 4 * length; i++)
+        to[i] = (uint8_t)((uint32_t)numbers[i / 4] >> (24 - 8 * (i % 4)));
+}
+
+static void measure(int at)
+{
+    given = &problems[at];
+    put(matrix, given->matrix, given->m * given->n);
+    put(moduli, given->moduli, given->m);
+    for (int call = 0; call < CALLS; call++) {
+        build = empty_build, translate = empty_translate, gauge = empty_gauge;
+        long empty = used(work[call]);
+        build = glaukemis_build, translate = glaukemis_translate, gauge = glaukemis_gauge;
+        bytes[at][call] = used(work[call]) - empty;
+        see(call);
+    }
+}
+
+static void read_problems(void)
+{
+    struct problem *p = problems;
+    while (scanf("%63s %d %d %d %u %u %u", p->name, &p->repetitions, &p->stage, &p->row, &p->rank, &p->steps, &p->gauge) == 7) {
+        if (scanf("%u %u", &p->m, &p->n) != 2 || p->m > ROWS || p->n > QUANTITIES)
+            fail("a problem without its size, or too large");
+        for (uint32_t i = 0; i < p->m; i++)
+            if (scanf("%d", &p->moduli[i]) != 1)
+                fail("a modulus is missing");
+        for (uint32_t i = 0; i < p->m * p->n; i++)
+            if (scanf("%d", &p->matrix[i]) != 1)
+                fail("an entry is missing");
+        p++;
+        if (++count == PROBLEMS)
+            fail("too many problems");
+    }
+    if (!feof(stdin) || count < 3)
+        fail("no problems to measure");
+    for (int i = 0; i < 3; i++)
+        if (problems[i].repetitions != i)
+            fail("the ladder does not begin with 0, 1 and 2 repetitions");
+}
+
+/* 10936 as 10,936. */
+static const char *grouped(long x)
+{
+    static char text[8][32];
+    static int turn;
+    char *to = text[turn++ % 8];
+    if (labs(x) < 1000)
+        sprintf(to, "%ld", x);
+    else if (labs(x) < 1000000)
+        sprintf(to, "%ld,%03ld", x / 1000, labs(x) % 1000);
+    else
+        sprintf(to, "%ld,%03ld,%03ld", x / 1000000, labs(x) / 1000 % 1000, labs(x) % 1000);
+    return to;
+}
+
+static void row(const char *first, const char *second, const long *of_calls)
+{
+    printf("| %s | %s |", first, second);
+    for (int call = 0; call < CALLS; call++)
+        printf(" %s |", grouped(of_calls[call]));
+    putchar('\n');
+}
+
+/* A row of the figures of one problem. */
+static void row_of(const struct problem *p, const long *of_calls)
+{
+    char first[16], second[128];
+    sprintf(first, "%d", p->repetitions);
+    if (p->repetitions == 0)
+        sprintf(second, "%s, %u by %u", p->name, p->m, p->n);
+    else
+        sprintf(second, "%s, %u by %u, row %d of stage %d", p->name, p->m, p->n, p->row, p->stage);
+    row(first, second, of_calls);
+}
+
+static int in_ladder(int at)
+{
+    return at < count && strcmp(problems[at].name, "ladder") == 0;
+}
+
+int main(void)
+{
+    read_problems();
+    stack = mmap(NULL, GUARD + STACK, PROT_READ | PROT_WRITE, MAP_PRIVATE | MAP_ANONYMOUS, -1, 0);
+    if (stack == MAP_FAILED || mprotect(stack, GUARD, PROT_NONE) != 0)
+        fail("no memory");
+    stack += GUARD;
+    for (int i = 0; i < QUANTITIES; i++)
+        readings[i] = 1.0;
+    for (int at = 0; at < count; at++)
+        measure(at);
+
+    /* From one repetition on the bytes should lie on a line: a level is what two repetitions take more than one. */
+    long level[CALLS], fixed[CALLS], bound[CALLS], more[PROBLEMS][CALLS];
+    int line = 1;
+    for (int call = 0; call < CALLS; call++) {
+        level[call] = bytes[2][call] - bytes[1][call];
+        fixed[call] = bytes[1][call] - level[call];
+        bound[call] = fixed[call] + BOUND * level[call];
+        for (int at = 1; at < count; at++) {
+            more[at][call] = bytes[at][call] - fixed[call] - problems[at].repetitions * level[call];
+            line &= more[at][call] == 0;
+        }
+    }
+
+    const char *const head = "| repetitions | problem | build | translate | gauge |\n|---|---|---|---|---|";
+    puts(head);
+    for (int at = 0; at < count; at++)
+        if (at < 3 || !in_ladder(at + 1))
+            row_of(&problems[at], bytes[at]);
+    row("a level", "2 repetitions less 1", level);
+    row("fixed", "1 repetition less a level", fixed);
+    if (line) {
+        char first[16];
+        sprintf(first, "%d", BOUND);
+        row(first, "computed: fixed, and so many levels", bound);
+        printf("\nAll %d problems with a repetition lie on this line, to the byte.\n", count - 1);
+        return 0;
+    }
+    puts("\nNot a line, so nothing is computed from it. What the calls took more than that, where it changes:\n");
+    puts(head);
+    for (int at = 1; at < count; at++)
+        if (at == 1 || memcmp(more[at], more[at - 1], sizeof more[at]) != 0)
+            row_of(&problems[at], more[at]);
+    return 0;
+}
