@@ -4,6 +4,11 @@ ghost use Rattle.rules.specs.Bench.{benchBuildOf, benchTranslateOf};
 ghost use Rattle.rules.specs.Gauges.{lentReadings, gaugeOf, gaugeAnswer};
 ghost use Rattle.checks.specs.Checks.{given};
 ghost use Rattle.bench.specs.Answers.{Builds, Translates, Gauges};
+use checks::ROOM_COEFFICIENTS;
+use checks::ROOM_EXPONENTS;
+use checks::ROOM_H;
+use checks::ROOM_V;
+use checks::ROOM_W;
 use formulas::TranslateAnswer;
 use gauges::Gauged;
 use scaling::BuildAnswer;
@@ -32,12 +37,12 @@ pub extern "C" fn glaukemis_build(
     let entries = decode(matrix, &mut a);
     let mut p: [i32; 9] = [0; 9];
     let rows = decode(moduli, &mut p);
-    let mut x: [i32; 192] = [0; 192];
-    let mut y: [i32; 576] = [0; 576];
-    let mut z: [i32; 576] = [0; 576];
-    let i = room(h, 192);
-    let j = room(v, 576);
-    let k = room(w, 576);
+    let mut x: [i32; ROOM_H] = [0; ROOM_H];
+    let mut y: [i32; ROOM_V] = [0; ROOM_V];
+    let mut z: [i32; ROOM_W] = [0; ROOM_W];
+    let i = room(h, ROOM_H);
+    let j = room(v, ROOM_V);
+    let k = room(w, ROOM_W);
     let r = scaling::build(
         m,
         n,
@@ -79,10 +84,10 @@ pub extern "C" fn glaukemis_translate(
     let terms = decode(coefficients, &mut c);
     let mut e: [i32; 1025] = [0; 1025];
     let powers = decode(exponents, &mut e);
-    let mut x: [i32; 64] = [0; 64];
-    let mut y: [i32; 1024] = [0; 1024];
-    let i = room(kept, 64);
-    let j = room(translated, 1024);
+    let mut x: [i32; ROOM_COEFFICIENTS] = [0; ROOM_COEFFICIENTS];
+    let mut y: [i32; ROOM_EXPONENTS] = [0; ROOM_EXPONENTS];
+    let i = room(kept, ROOM_COEFFICIENTS);
+    let j = room(translated, ROOM_EXPONENTS);
     let r = formulas::translate(
         m,
         n,

@@ -1,4 +1,5 @@
-// Checks 1 to 6, which every call makes that takes a problem, and the rows with a modulus. None has a condition on its caller.
+// Checks 1 to 5, with which every call begins that takes a problem, and 6 for those that take exponents; the rows with a modulus. No public function has
+// a condition on its caller.
 ghost use mathlib.Core.Path.{_≡_};
 ghost use mathlib.Core.Bool.{_&&_};
 ghost use Prim.Native.Nat.{_<_};
@@ -13,6 +14,35 @@ use parts::first_out;
 use parts::formula_fits;
 use parts::problem_fits;
 use parts::sizes_in_range;
+
+// Document 01's limits, and the least lengths of outputs.
+pub const M: i64 = 2147483647;
+
+pub const MINUS_M: i64 = -2147483647;
+
+pub const MOST_TERMS: usize = 64;
+
+pub const ROOM_H: usize = 192;
+
+pub const ROOM_V: usize = 576;
+
+pub const ROOM_W: usize = 576;
+
+pub const ROOM_WEIGHTS: usize = 8;
+
+pub const ROOM_COEFFICIENTS: usize = 64;
+
+pub const ROOM_EXPONENTS: usize = 1024;
+
+const MOST_MODULUS: i32 = 1000;
+
+const MOST_ENTRY: i32 = 1000;
+
+const LEAST_ENTRY: i32 = -1000;
+
+const MOST_EXPONENT: i32 = 10000;
+
+const LEAST_EXPONENT: i32 = -10000;
 
 // A number and a place; the number 0 says that nothing was found.
 pub struct Refusal {
@@ -43,11 +73,7 @@ pub fn is_zero(x: i32) -> bool
 pub fn beyond(z: i64) -> bool
     ensures { λ r. ⌜ r ≡ limits.beyond z ⌝ }
 {
-    if z < -2147483647 {
-        true
-    } else {
-        2147483647 < z
-    }
+    if z < MINUS_M { true } else { M < z }
 }
 
 // 1 to 5; `more` says that the inputs other than matrix and moduli have the right lengths, `outputs` that no output is too short.
@@ -72,14 +98,14 @@ pub fn problem(m: u32, n: u32, matrix: &[i32], moduli: &[i32], more: bool, outpu
             place: 0,
         };
     }
-    let i = first_out(moduli, 0, 1000);
+    let i = first_out(moduli, 0, MOST_MODULUS);
     if i < moduli.len() {
         return Refusal {
             number: 4,
             place: i as u32,
         };
     }
-    let j = first_out(matrix, -1000, 1000);
+    let j = first_out(matrix, LEAST_ENTRY, MOST_ENTRY);
     if j < matrix.len() {
         return Refusal {
             number: 5,
@@ -110,7 +136,7 @@ pub fn formula(
     if number != 0 {
         return c;
     }
-    let i = first_out(exponents, -10000, 10000);
+    let i = first_out(exponents, LEAST_EXPONENT, MOST_EXPONENT);
     if i < exponents.len() {
         return Refusal {
             number: 6,

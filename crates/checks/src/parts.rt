@@ -6,6 +6,7 @@ ghost use lib.Dec.{eqb, leb};
 ghost use Rattle.rules.specs.Limits as limits;
 ghost use Rattle.rules.specs.Limits.{mostTerms, sizesInRange};
 ghost use Rattle.checks.specs.Checks.{FirstOut};
+use crate::MOST_TERMS;
 use crate::both;
 
 fn within(lo: i32, hi: i32, x: i32) -> bool
@@ -45,7 +46,7 @@ pub fn problem_fits(m: u32, n: u32, matrix: usize, moduli: usize) -> bool
 pub fn formula_fits(n: u32, coefficients: usize, exponents: usize) -> bool
     ensures { λ r. ⌜ r ≡ eqb exponents (coefficients * n) && leb coefficients mostTerms ⌝ }
 {
-    if 64 < coefficients {
+    if MOST_TERMS < coefficients {
         false
     } else {
         exponents == coefficients * (n as usize)

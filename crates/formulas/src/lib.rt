@@ -13,6 +13,12 @@ ghost use Rattle.checks.specs.Checks.{Says, given};
 ghost use Rattle.checks.specs.Moduli.{problemOf, Lists};
 ghost use Rattle.formulas.specs.Terms.{from, Monomial, rowOfW, RowsIn, written};
 ghost use Rattle.formulas.specs.Answers.{Weighs, Translates, RoomToTranslate, formulaOf, Solved, judged, Passing, AllTaken};
+use checks::ROOM_COEFFICIENTS;
+use checks::ROOM_EXPONENTS;
+use checks::ROOM_H;
+use checks::ROOM_V;
+use checks::ROOM_W;
+use checks::ROOM_WEIGHTS;
 
 mod terms;
 
@@ -61,7 +67,15 @@ pub fn weigh(
 ) -> WeighAnswer
     ensures { λ r. ⌜ Weighs (weighOf (given m n (now (matrix .entry)) (now (moduli .entry))) (now (exponents .entry)) (now (weights .entry))) r (now (weights .exit)) ⌝ }
 {
-    let c = checks::formula(m, n, matrix, moduli, 1, exponents, 8 <= weights.len());
+    let c = checks::formula(
+        m,
+        n,
+        matrix,
+        moduli,
+        1,
+        exponents,
+        ROOM_WEIGHTS <= weights.len(),
+    );
     let number = c.number;
     if number != 0 {
         return WeighAnswer {
@@ -82,7 +96,7 @@ fn judge(
     matrix: &[i32],
     moduli: &[i32],
     q: ModulusRows,
-    w: &[i32; 576],
+    w: &[i32; ROOM_W],
     r: usize,
     exponents: &[i32],
     start: usize,
@@ -109,7 +123,7 @@ fn judge_all(
     matrix: &[i32],
     moduli: &[i32],
     q: ModulusRows,
-    w: &[i32; 576],
+    w: &[i32; ROOM_W],
     r: usize,
     coefficients: &[i32],
     exponents: &[i32],
@@ -138,7 +152,14 @@ fn judge_all(
 }
 
 // The translated exponents of one term, from an index on; cols is document 01's N.
-fn translate_term(out: &mut [i32], at: usize, w: &[i32; 576], cols: usize, r: usize, e: Exponents)
+fn translate_term(
+    out: &mut [i32],
+    at: usize,
+    w: &[i32; ROOM_W],
+    cols: usize,
+    r: usize,
+    e: Exponents,
+)
     requires { ⌜ RowsIn (now w) cols r e ⌝ }
     requires { ⌜ Passing (now w) cols r e ⌝ }
     requires { ⌜ at + (cols - r) ≤ length (now out) ⌝ }
@@ -161,7 +182,7 @@ fn translate_all(
     matrix: &[i32],
     moduli: &[i32],
     q: ModulusRows,
-    w: &[i32; 576],
+    w: &[i32; ROOM_W],
     r: usize,
     coefficients: &[i32],
     exponents: &[i32],
@@ -190,7 +211,7 @@ fn translate_checked(
     n: usize,
     matrix: &[i32],
     moduli: &[i32],
-    w: &[i32; 576],
+    w: &[i32; ROOM_W],
     r: usize,
     coefficients: &[i32],
     exponents: &[i32],
@@ -245,7 +266,10 @@ pub fn translate(
 ) -> TranslateAnswer
     ensures { λ r. ⌜ Translates (translateOf (given m n (now (matrix .entry)) (now (moduli .entry))) (formulaOf (now (coefficients .entry)) (now (exponents .entry))) (now (kept .entry)) (now (translated .entry))) r (now (kept .exit)) (now (translated .exit)) ⌝ }
 {
-    let outputs = both(64 <= kept.len(), 1024 <= translated.len());
+    let outputs = both(
+        ROOM_COEFFICIENTS <= kept.len(),
+        ROOM_EXPONENTS <= translated.len(),
+    );
     let c = checks::formula(m, n, matrix, moduli, coefficients.len(), exponents, outputs);
     let number = c.number;
     if number != 0 {
@@ -255,9 +279,9 @@ pub fn translate(
             d: 0,
         };
     }
-    let mut h: [i32; 192] = [0; 192];
-    let mut v: [i32; 576] = [0; 576];
-    let mut w: [i32; 576] = [0; 576];
+    let mut h: [i32; ROOM_H] = [0; ROOM_H];
+    let mut v: [i32; ROOM_V] = [0; ROOM_V];
+    let mut w: [i32; ROOM_W] = [0; ROOM_W];
     let b = scaling::build(m, n, matrix, moduli, &mut h, &mut v, &mut w);
     let beyond = b.number;
     if beyond != 0 {

@@ -7,9 +7,12 @@ mod print;
 mod read;
 mod solve;
 
+// The longest text that is printed has fewer bytes.
+pub const TEXT_BYTES: usize = 20480;
+
 // A text: the first `len` bytes, and zeros after them.
 pub struct Text {
-    pub bytes: [u8; 20480],
+    pub bytes: [u8; TEXT_BYTES],
     pub len: usize,
 }
 

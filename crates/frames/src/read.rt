@@ -12,6 +12,8 @@ use crate::line::byte;
 use crate::line::long;
 use crate::line::short;
 use crate::line::starts_frame;
+use checks::MOST_TERMS;
+use checks::ROOM_EXPONENTS;
 
 // What was read: the number 0 with the sizes and, at the front of each array, the numbers; or a refusal's number and place.
 pub struct Input {
@@ -22,8 +24,8 @@ pub struct Input {
     pub terms: usize,
     pub moduli: [i32; 8],
     pub matrix: [i32; 128],
-    pub coefficients: [i32; 64],
-    pub exponents: [i32; 1024],
+    pub coefficients: [i32; MOST_TERMS],
+    pub exponents: [i32; ROOM_EXPONENTS],
 }
 
 // `count` numbers of two bytes, whose digits start at `at`, put to a[from], a[from + 1], ..
@@ -51,7 +53,7 @@ fn fill_matrix(a: &mut [i32; 128], from: usize, text: &[u8], at: usize, count: u
     fill(a, from, text, at, count)
 }
 
-fn fill_exponents(a: &mut [i32; 1024], from: usize, text: &[u8], at: usize, count: usize)
+fn fill_exponents(a: &mut [i32; ROOM_EXPONENTS], from: usize, text: &[u8], at: usize, count: usize)
     requires { ⌜ length (now a) ≡ 1024 ⌝ }
     requires { ⌜ from + count ≤ length (now a) ⌝ }
     requires { ⌜ at + 4 * count ≤ length (now text) ⌝ }
@@ -74,8 +76,8 @@ impl Input {
             terms: 0,
             moduli: [0; 8],
             matrix: [0; 128],
-            coefficients: [0; 64],
-            exponents: [0; 1024],
+            coefficients: [0; MOST_TERMS],
+            exponents: [0; ROOM_EXPONENTS],
         }
     }
 
@@ -141,7 +143,7 @@ pub fn read(text: &[u8]) -> Input
     }
     let mut k = 0;
     while at < text.len() {
-        if k == 64 {
+        if k == MOST_TERMS {
             return Input::new(10, (1 + m + k) as u32, 0, 0);
         }
         if !starts_frame(text, at, 3, 10 + 4 * n) {

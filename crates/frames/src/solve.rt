@@ -4,18 +4,24 @@ ghost use Rattle.rules.specs.Frames.{refusalLine, printed, answered};
 ghost use Rattle.rules.specs.Calls.{translateVerdict};
 ghost use Rattle.frames.specs.Input.{Sized, problemIn, formulaIn};
 ghost use Rattle.frames.specs.Output.{Shows, Room, solutionText, IsTranslated};
+use crate::TEXT_BYTES;
 use crate::Text;
 use crate::print::refusal;
 use crate::print::rows;
 use crate::print::sizes;
 use crate::print::terms;
 use crate::read::Input;
+use checks::ROOM_COEFFICIENTS;
+use checks::ROOM_EXPONENTS;
+use checks::ROOM_H;
+use checks::ROOM_V;
+use checks::ROOM_W;
 
 // One line that tells a refusal.
 pub fn refused(number: u32, place: u32) -> Text
     ensures { λ r. ⌜ Shows r (refusalLine number place) ⌝ }
 {
-    let mut out = [0u8; 20480];
+    let mut out = [0u8; TEXT_BYTES];
     let end = refusal(&mut out, 0, number, place);
     Text {
         bytes: out,
@@ -49,7 +55,7 @@ fn solution(
     let m = x.m as usize;
     let cols = (x.n + x.s) as usize;
     let d = x.d as usize;
-    let mut out = [0u8; 20480];
+    let mut out = [0u8; TEXT_BYTES];
     let a = sizes(&mut out, 0, x.m, x.n, x.s, x.r, x.steps);
     let b = rows(&mut out, a, 0x82, h, m, cols);
     let c = rows(&mut out, b, 0x83, v, cols, cols);
@@ -71,9 +77,9 @@ fn solved(x: Input, d: u32, kept: &[i32], translated: &[i32]) -> Text
     let n = x.n;
     let matrix = x.matrix;
     let moduli = x.moduli;
-    let mut h = [0i32; 192];
-    let mut v = [0i32; 576];
-    let mut w = [0i32; 576];
+    let mut h = [0i32; ROOM_H];
+    let mut v = [0i32; ROOM_V];
+    let mut w = [0i32; ROOM_W];
     let b = scaling::build(
         m as u32,
         n as u32,
@@ -107,8 +113,8 @@ pub fn solve(x: Input) -> Text
     let moduli = x.moduli;
     let coefficients = x.coefficients;
     let exponents = x.exponents;
-    let mut kept = [0i32; 64];
-    let mut translated = [0i32; 1024];
+    let mut kept = [0i32; ROOM_COEFFICIENTS];
+    let mut translated = [0i32; ROOM_EXPONENTS];
     let t = formulas::translate(
         m as u32,
         n as u32,

@@ -5,6 +5,9 @@ ghost use Rattle.rules.specs.Calls.{verdict};
 ghost use Rattle.rules.specs.Gauges.{read, nought, refusal, ownChecks, gaugedBy, gaugeOf};
 ghost use Rattle.checks.specs.Checks.{given};
 ghost use Rattle.gauges.specs.Held.{column, Table, told, setOf};
+use checks::ROOM_H;
+use checks::ROOM_V;
+use checks::ROOM_W;
 
 mod values;
 
@@ -84,9 +87,9 @@ pub fn gauge(
 ) -> Gauged
     ensures { λ r. ⌜ told r ≡ gaugeOf (given m n (now (matrix .entry)) (now (moduli .entry))) (setOf readings) group ⌝ }
 {
-    let mut h: [i32; 192] = [0; 192];
-    let mut v: [i32; 576] = [0; 576];
-    let mut w: [i32; 576] = [0; 576];
+    let mut h: [i32; ROOM_H] = [0; ROOM_H];
+    let mut v: [i32; ROOM_V] = [0; ROOM_V];
+    let mut w: [i32; ROOM_W] = [0; ROOM_W];
     let b = scaling::build(m, n, matrix, moduli, &mut h, &mut v, &mut w);
     let number = b.number;
     if number == 1 {

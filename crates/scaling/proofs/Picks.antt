@@ -15,12 +15,12 @@ use Rattle.whole.proofs.Exchange.{tr, Which, first, second, neither, which?, tr
 use Rattle.rules.specs.Limits.{beyond}
 use Rattle.rules.specs.Steps.{plus, anyBeyond}
 use Rattle.theory.proofs.Range.{beyond-none}
-use Rattle.scaling.specs.Flat.{Within, keep, sumAt, addF, addO, swapF, negF, turnF}
+use Rattle.scaling.specs.Flat.{Within, keep, sumAt, addF, addO, swapF, negF, rotateF}
 use Rattle.scaling.specs.Join.{Small, pick}
 use Rattle.checks.proofs.Values.{not-beyond}
 use Rattle.scaling.proofs.Values.{kept}
-use Rattle.scaling.proofs.Places.{Layout, cell, turn-column, turn-row}
-use Rattle.scaling.proofs.Turns.{addF-kept, addF-reads, addF-made, negF-kept, negF-made, swapF-kept, swapF-first, swapF-second, turnF-made}
+use Rattle.scaling.proofs.Places.{Layout, cell, rotate-column, rotate-row}
+use Rattle.scaling.proofs.Turns.{addF-kept, addF-reads, addF-made, negF-kept, negF-made, swapF-kept, swapF-first, swapF-second, rotateF-made}
 
 -- ---- lists made from a function of the index
 map-tab : (h : ℤ → ℤ) (k : ℕ) (f : ℕ → ℤ) → map h (tab k f) ≡ tab k (λ i. h (f i))
@@ -137,12 +137,12 @@ module _ {n : ℕ} {at : ℕ → ℕ} {stride count : ℕ} (lay : Layout n at st
         ys = addF xs (at j) (at i) stride q count
 
 -- ---- turned rows
-pub turn-columns : (xs old : List ℤ) (m n a : ℕ) → m * n ≤ length xs → (c : ℕ) → c < n → pick (turnF xs old n a (m * n)) c n m ≡ pick old ((c + a) % n) n m
-turn-columns xs old m n a l c h = pick-same (turnF xs old n a (m * n)) old c ((c + a) % n) n m
-    (λ k g. turnF-made xs old n a (m * n) (c + k * n) l (cell h g) ∙ ap (nth old) (turn-column n a c k h))
+pub rotate-columns : (xs old : List ℤ) (m n a : ℕ) → m * n ≤ length xs → (c : ℕ) → c < n → pick (rotateF xs old n a (m * n)) c n m ≡ pick old ((c + a) % n) n m
+rotate-columns xs old m n a l c h = pick-same (rotateF xs old n a (m * n)) old c ((c + a) % n) n m
+    (λ k g. rotateF-made xs old n a (m * n) (c + k * n) l (cell h g) ∙ ap (nth old) (rotate-column n a c k h))
 
-pub turn-rows : (xs old : List ℤ) (n a : ℕ) → n * n ≤ length xs → (c : ℕ) → c < n
-    → pick (turnF xs old (n * n) (a * n) (1 * (n * n))) (c * n) 1 n ≡ pick old ((c + a) % n * n) 1 n
-turn-rows xs old n a l c h = pick-same (turnF xs old (n * n) (a * n) (1 * (n * n))) old (c * n) ((c + a) % n * n) 1 n
-    (λ k g. turnF-made xs old (n * n) (a * n) (1 * (n * n)) (c * n + k * 1) (omega arith) (omega (arith, cell {j = k} {n = n} {k = c} {m = n} g h))
-    ∙ ap (nth old) (turn-row n a c k h g))
+pub rotate-rows : (xs old : List ℤ) (n a : ℕ) → n * n ≤ length xs → (c : ℕ) → c < n
+    → pick (rotateF xs old (n * n) (a * n) (1 * (n * n))) (c * n) 1 n ≡ pick old ((c + a) % n * n) 1 n
+rotate-rows xs old n a l c h = pick-same (rotateF xs old (n * n) (a * n) (1 * (n * n))) old (c * n) ((c + a) % n * n) 1 n
+    (λ k g. rotateF-made xs old (n * n) (a * n) (1 * (n * n)) (c * n + k * 1) (omega arith) (omega (arith, cell {j = k} {n = n} {k = c} {m = n} g h))
+    ∙ ap (nth old) (rotate-row n a c k h g))

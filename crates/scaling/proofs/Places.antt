@@ -8,7 +8,7 @@ use native.Mathlib.Nat.{add-mul-mod-self-right, add-mul-div-right}
 use native.Mathlib.Omega.{arith}
 use Rattle.whole.proofs.Tests.{Test, pass, fail, lt?}
 use Rattle.whole.proofs.Order.{row-within}
-use Rattle.scaling.specs.Flat.{turnFrom}
+use Rattle.scaling.specs.Flat.{rotateFrom}
 
 pub cell : {j n k m : ℕ} → j < n → k < m → j + k * n < m * n
 cell {j} {n} {k} {m} hj hk = omega (arith, row-within k n m n hk (le-refl n))
@@ -61,18 +61,18 @@ rows n = record {
 }
 
 -- ---- turned rows
-pub turn-in : (width by rows k : ℕ) → 0 < width → k < rows * width → turnFrom width by k < rows * width
-turn-in width by rows k h l =
+pub rotate-in : (width by rows k : ℕ) → 0 < width → k < rows * width → rotateFrom width by k < rows * width
+rotate-in width by rows k h l =
     let r : k / width < rows = div-lt-iff-lt-mul {k = width} {x = k} {y = rows} h .1 l in
     omega (arith, cell {j = (k % width + by) % width} {n = width} {k = k / width} {m = rows} (mod-lt (k % width + by) h) r)
 
 -- in a table whose rows are turned, column c is what column (c + a) % n was
-pub turn-column : (n a c k : ℕ) → c < n → turnFrom n a (c + k * n) ≡ (c + a) % n + k * n
-turn-column n a c k h = rw (row-of c k n h, column-of c k n h) (omega arith)
+pub rotate-column : (n a c k : ℕ) → c < n → rotateFrom n a (c + k * n) ≡ (c + a) % n + k * n
+rotate-column n a c k h = rw (row-of c k n h, column-of c k n h) (omega arith)
 
 -- in a table of n rows that is turned as a whole, by a rows, row c is what row (c + a) % n was
-pub turn-row : (n a c k : ℕ) → c < n → k < n → turnFrom (n * n) (a * n) (c * n + k * 1) ≡ (c + a) % n * n + k * 1
-turn-row n a c k h l =
+pub rotate-row : (n a c k : ℕ) → c < n → k < n → rotateFrom (n * n) (a * n) (c * n + k * 1) ≡ (c + a) % n * n + k * 1
+rotate-row n a c k h l =
     let s : c * n + k * 1 < n * n = omega (arith, cell {j = k} {n = n} {k = c} {m = n} l h) in
     let t : (c + a) % n * n + k * 1 < n * n = omega (arith, cell {j = k} {n = n} {k = (c + a) % n} {m = n} l (mod-lt (c + a) (omega arith))) in
     let e : c * n + k * 1 + a * n ≡ (c + a) % n * n + k * 1 + (c + a) / n * (n * n) =

@@ -15,11 +15,11 @@ use Rattle.whole.proofs.Exchange.{tr, tr-first, tr-second, tr-neither}
 use Rattle.rules.specs.Steps.{Line, State, blank, anyBeyond, values, step, plus, swapStep, negated, negateStep, source, target, addStep, reorder}
 use Rattle.theory.proofs.Flag.{anyBeyond-append}
 use Rattle.scaling.specs.declared.work.Work.{Work}
-use Rattle.scaling.specs.Flat.{Added, addF, swapF, negF, turnF}
+use Rattle.scaling.specs.Flat.{Added, addF, swapF, negF, rotateF}
 use Rattle.scaling.specs.Join.{pick, lineOf, stateOf, Small, Fine, Tracks, Same}
 use Rattle.scaling.proofs.Places.{columns, rows}
-use Rattle.scaling.proofs.Turns.{addF-small, negF-small, swapF-small, turnF-small}
-use Rattle.scaling.proofs.Picks.{Written, swap-lines, negate-lines, add-flag, add-lines, turn-columns, turn-rows}
+use Rattle.scaling.proofs.Turns.{addF-small, negF-small, swapF-small, rotateF-small}
+use Rattle.scaling.proofs.Picks.{Written, swap-lines, negate-lines, add-flag, add-lines, rotate-columns, rotate-rows}
 use Rattle.scaling.proofs.State.{Long, lineIn, state-count, state-steps, state-over, state-line, state-is, line-near, t-room, v-room, w-room, t-in, v-in, w-in}
 
 -- r is made of these arrays, this count and this flag
@@ -212,19 +212,19 @@ module _ {m n : ℕ} {s : Work} (r : Work) (f : Fine m n s) (long : Long s) wher
 
   -- ---- reorder
   module _ (a : ℕ) (some : 0 < n) (ha : a ≤ n)
-      (g : Made r (turnF (s .t) (s .t) n a (m * n)) (turnF (s .v) (s .v) n a (n * n)) (turnF (s .w) (s .w) (n * n) (a * n) (1 * (n * n))) (s .steps) (s .over)) where
+      (g : Made r (rotateF (s .t) (s .t) n a (m * n)) (rotateF (s .v) (s .v) n a (n * n)) (rotateF (s .w) (s .w) (n * n) (a * n) (1 * (n * n))) (s .steps) (s .over)) where
     turned : (c : ℕ) → c < n → lineIn m n r c ≡ lineIn m n s ((c + a) % n)
     unfolding lineOf
     turned c l = rw (g .t, g .v, g .w) (line-eq
-        (turn-columns (s .t) (s .t) m n a (t-room f long) c l)
-        (turn-columns (s .v) (s .v) n n a (v-room f long) c l)
-        (turn-rows (s .w) (s .w) n a (w-room f long) c l))
+        (rotate-columns (s .t) (s .t) m n a (t-room f long) c l)
+        (rotate-columns (s .v) (s .v) n n a (v-room f long) c l)
+        (rotate-rows (s .w) (s .w) n a (w-room f long) c l))
 
     pub reorder-same : Same m n r (reorder a u)
     unfolding reorder
     reorder-same = record {
-      fine = fine-made g (g .over ∙ f .clear) (turnF-small (s .t) (s .t) n a (f .t) (f .t) (m * n)) (turnF-small (s .v) (s .v) n a (f .v) (f .v) (n * n))
-          (turnF-small (s .w) (s .w) (n * n) (a * n) (f .w) (f .w) (1 * (n * n)));
+      fine = fine-made g (g .over ∙ f .clear) (rotateF-small (s .t) (s .t) n a (f .t) (f .t) (m * n)) (rotateF-small (s .v) (s .v) n a (f .v) (f .v) (n * n))
+          (rotateF-small (s .w) (s .w) (n * n) (a * n) (f .w) (f .w) (1 * (n * n)));
       same = state-is m n r (reorder a u) (simp (length-append, length-drop, length-take) (omega (arith, state-count m n s)))
           (λ c l. turned c l ∙ sym (state-line m n s ((c + a) % n) (mod-lt (c + a) some)) ∙ sym (turned-at (u .lines) n a c (state-count m n s) ha l))
           (g .steps ∙ sym (state-steps m n s)) (g .over ∙ sym (state-over m n s));

@@ -12,7 +12,7 @@ use lib.IntN.{ℤ, pos, natAbs, negℤ}
 use Rattle.whole.specs.Lists.{nth}
 use Rattle.whole.proofs.Tests.{Test, pass, fail, lt?}
 use Rattle.rules.specs.Limits.{M}
-use Rattle.scaling.specs.Flat.{Within, keep, sumAt, addF, swapF, negF, turnFrom, turnF}
+use Rattle.scaling.specs.Flat.{Within, keep, sumAt, addF, swapF, negF, rotateFrom, rotateF}
 use Rattle.scaling.specs.Join.{Small}
 use Rattle.scaling.proofs.Values.{keep-small}
 use Rattle.scaling.proofs.Places.{Disjoint, once}
@@ -104,15 +104,15 @@ module _ (xs : List ℤ) (at stride : ℕ) where
 
 -- ---- turned rows
 module _ (xs old : List ℤ) (width by : ℕ) where
-  turnF-writes : Writes xs (turnF xs old width by) (λ k. k) (λ k. nth old (turnFrom width by k))
-  unfolding turnF
-  turnF-writes = record { start = refl; turn = λ k. refl }
+  rotateF-writes : Writes xs (rotateF xs old width by) (λ k. k) (λ k. nth old (rotateFrom width by k))
+  unfolding rotateF
+  rotateF-writes = record { start = refl; turn = λ k. refl }
 
-  pub turnF-small : Small xs → Small old → (k : ℕ) → Small (turnF xs old width by k)
-  turnF-small h g = writes-small turnF-writes h (λ k. g .at (turnFrom width by k))
+  pub rotateF-small : Small xs → Small old → (k : ℕ) → Small (rotateF xs old width by k)
+  rotateF-small h g = writes-small rotateF-writes h (λ k. g .at (rotateFrom width by k))
 
-  pub turnF-made : (count k : ℕ) → count ≤ length xs → k < count → nth (turnF xs old width by count) k ≡ nth old (turnFrom width by k)
-  turnF-made count k l h = writes-made turnF-writes count k h (omega arith) (λ l a. omega arith)
+  pub rotateF-made : (count k : ℕ) → count ≤ length xs → k < count → nth (rotateF xs old width by count) k ≡ nth old (rotateFrom width by k)
+  rotateF-made count k l h = writes-made rotateF-writes count k h (omega arith) (λ l a. omega arith)
 
 -- ---- swaps, with two writes in each turn
 module _ (xs : List ℤ) (x y stride : ℕ) where

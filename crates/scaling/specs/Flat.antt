@@ -44,9 +44,9 @@ negF xs at stride zero = xs
 negF xs at stride (suc k) = set (negF xs at stride k) (at + k * stride) (keep (negℤ (nth (negF xs at stride k) (at + k * stride))))
 
 -- where entry k of a turned list stood before: in its row, `by` places on
-abbrev pub turnFrom : (width by k : ℕ) → ℕ
-turnFrom width by k = k / width * width + (k % width + by) % width
+abbrev pub rotateFrom : (width by k : ℕ) → ℕ
+rotateFrom width by k = k / width * width + (k % width + by) % width
 
-unfoldable pub turnF : (xs old : List ℤ) → (width by : ℕ) → (turns : ℕ) → List ℤ
-turnF xs old width by zero = xs
-turnF xs old width by (suc k) = set (turnF xs old width by k) k (nth old (turnFrom width by k))
+unfoldable pub rotateF : (xs old : List ℤ) → (width by : ℕ) → (turns : ℕ) → List ℤ
+rotateF xs old width by zero = xs
+rotateF xs old width by (suc k) = set (rotateF xs old width by k) k (nth old (rotateFrom width by k))

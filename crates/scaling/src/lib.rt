@@ -9,6 +9,9 @@ ghost use Rattle.rules.specs.Calls.{verdict, rangeCheck, filled, built, buildOf
 ghost use Rattle.checks.specs.Checks.{given};
 ghost use Rattle.checks.specs.Moduli.{problemOf};
 ghost use Rattle.scaling.specs.Answers.{Builds, RoomToBuild};
+use checks::ROOM_H;
+use checks::ROOM_V;
+use checks::ROOM_W;
 
 mod numbers;
 mod run;
@@ -89,7 +92,10 @@ pub fn build(
 ) -> BuildAnswer
     ensures { λ r. ⌜ Builds (buildOf (given m n (now (matrix .entry)) (now (moduli .entry))) (now (h .entry)) (now (v .entry)) (now (w .entry))) r (now (h .exit)) (now (v .exit)) (now (w .exit)) ⌝ }
 {
-    let outputs = both(192 <= h.len(), both(576 <= v.len(), 576 <= w.len()));
+    let outputs = both(
+        ROOM_H <= h.len(),
+        both(ROOM_V <= v.len(), ROOM_W <= w.len()),
+    );
     let c = checks::problem(m, n, matrix, moduli, true, outputs);
     let number = c.number;
     if number != 0 {

@@ -11,6 +11,8 @@ use crate::numbers::opposite;
 use crate::work::Progress;
 use crate::work::Work;
 use checks::ModulusRows;
+use checks::ROOM_H;
+use checks::ROOM_V;
 use checks::modulus_rows;
 
 // The entry of C in row i and column c.
@@ -31,7 +33,7 @@ fn entry_of_c(n: usize, matrix: &[i32], moduli: &[i32], q: ModulusRows, i: usize
     matrix[i * n + (c - s)]
 }
 
-fn fill_c(t: &mut [i32; 192], n: usize, matrix: &[i32], moduli: &[i32], q: ModulusRows)
+fn fill_c(t: &mut [i32; ROOM_H], n: usize, matrix: &[i32], moduli: &[i32], q: ModulusRows)
     requires { ⌜ length (now t) ≡ 192 ⌝ }
     requires { ⌜ WellFormed (problemOf n (now matrix) (now moduli)) ⌝ }
     requires { ⌜ Lists (problemOf n (now matrix) (now moduli)) q ⌝ }
@@ -47,7 +49,7 @@ fn fill_c(t: &mut [i32; 192], n: usize, matrix: &[i32], moduli: &[i32], q: Modul
 }
 
 // 1 on the diagonal of n by n entries, in a list of zeros.
-fn fill_identity(a: &mut [i32; 576], n: usize)
+fn fill_identity(a: &mut [i32; ROOM_V], n: usize)
     requires { ⌜ (n ≤ 24) × (length (now a) ≡ 576) ⌝ }
     ensures { λ r. ⌜ HoldsIdentity n (now (a .exit)) (now (a .entry)) ⌝ }
 {
@@ -63,9 +65,9 @@ pub fn start(n: usize, matrix: &[i32], moduli: &[i32], q: ModulusRows) -> Work
     requires { ⌜ Lists (problemOf n (now matrix) (now moduli)) q ⌝ }
     ensures { λ r. ⌜ Same (length (now (moduli .entry))) (N (problemOf n (now (matrix .entry)) (now (moduli .entry)))) r (steps.start (columns (problemOf n (now (matrix .entry)) (now (moduli .entry))))) ⌝ }
 {
-    let mut t: [i32; 192] = [0; 192];
+    let mut t: [i32; ROOM_H] = [0; ROOM_H];
     fill_c(&mut t, n, matrix, moduli, q);
-    let mut v: [i32; 576] = [0; 576];
+    let mut v: [i32; ROOM_V] = [0; ROOM_V];
     fill_identity(&mut v, n + q.s);
     let w = v;
     Work {

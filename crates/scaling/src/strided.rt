@@ -4,10 +4,12 @@ ghost use mathlib.Core.Bool.{_||_};
 ghost use Prim.Native.Nat.{_<_, _≤_, _*_};
 ghost use lib.ListN.{length};
 ghost use lib.IntN.{natAbs};
-ghost use Rattle.scaling.specs.Flat.{Within, Added, swapF, negF, turnF};
+ghost use Rattle.scaling.specs.Flat.{Within, Added, swapF, negF, rotateF};
 use crate::numbers::mix;
 use crate::numbers::opposite;
 use crate::numbers::stored;
+use checks::ROOM_H;
+use checks::ROOM_V;
 use checks::beyond;
 
 pub fn either(a: bool, b: bool) -> bool
@@ -68,9 +70,9 @@ pub fn negate(a: &mut [i32], at: usize, stride: usize, count: usize)
 }
 
 // Each of the first rows of a, width long, is that of old with the entries from `by` on before those below it.
-pub fn turn(a: &mut [i32], old: &[i32], rows: usize, width: usize, by: usize)
+pub fn rotate(a: &mut [i32], old: &[i32], rows: usize, width: usize, by: usize)
     requires { ⌜ (0 < width) × (by ≤ width) × (rows * width ≤ length (now a)) × (rows * width ≤ length (now old)) ⌝ }
-    ensures { λ r. ⌜ now (a .exit) ≡ turnF (now (a .entry)) (now (old .entry)) width by (rows * width) ⌝ }
+    ensures { λ r. ⌜ now (a .exit) ≡ rotateF (now (a .entry)) (now (old .entry)) width by (rows * width) ⌝ }
 {
     let mut k = 0;
     while k < rows * width {
@@ -82,7 +84,7 @@ pub fn turn(a: &mut [i32], old: &[i32], rows: usize, width: usize, by: usize)
 
 // A field of a struct is lent as a reference to an array, and that as a slice.
 pub fn add_t(
-    a: &mut [i32; 192],
+    a: &mut [i32; ROOM_H],
     to: usize,
     from: usize,
     stride: usize,
@@ -97,7 +99,7 @@ pub fn add_t(
     add(a, to, from, stride, count, q)
 }
 
-pub fn swap_t(a: &mut [i32; 192], one: usize, two: usize, stride: usize, count: usize)
+pub fn swap_t(a: &mut [i32; ROOM_H], one: usize, two: usize, stride: usize, count: usize)
     requires { ⌜ Within (now a) one stride count ⌝ }
     requires { ⌜ Within (now a) two stride count ⌝ }
     ensures { λ r. ⌜ now (a .exit) ≡ swapF (now (a .entry)) one two stride count ⌝ }
@@ -105,22 +107,22 @@ pub fn swap_t(a: &mut [i32; 192], one: usize, two: usize, stride: usize, count: 
     swap(a, one, two, stride, count);
 }
 
-pub fn negate_t(a: &mut [i32; 192], at: usize, stride: usize, count: usize)
+pub fn negate_t(a: &mut [i32; ROOM_H], at: usize, stride: usize, count: usize)
     requires { ⌜ Within (now a) at stride count ⌝ }
     ensures { λ r. ⌜ now (a .exit) ≡ negF (now (a .entry)) at stride count ⌝ }
 {
     negate(a, at, stride, count);
 }
 
-pub fn turn_t(a: &mut [i32; 192], old: &[i32; 192], rows: usize, width: usize, by: usize)
+pub fn rotate_t(a: &mut [i32; ROOM_H], old: &[i32; ROOM_H], rows: usize, width: usize, by: usize)
     requires { ⌜ (0 < width) × (by ≤ width) × (rows * width ≤ length (now a)) × (rows * width ≤ length (now old)) ⌝ }
-    ensures { λ r. ⌜ now (a .exit) ≡ turnF (now (a .entry)) (now (old .entry)) width by (rows * width) ⌝ }
+    ensures { λ r. ⌜ now (a .exit) ≡ rotateF (now (a .entry)) (now (old .entry)) width by (rows * width) ⌝ }
 {
-    turn(a, old, rows, width, by);
+    rotate(a, old, rows, width, by);
 }
 
 pub fn add_v(
-    a: &mut [i32; 576],
+    a: &mut [i32; ROOM_V],
     to: usize,
     from: usize,
     stride: usize,
@@ -135,7 +137,7 @@ pub fn add_v(
     add(a, to, from, stride, count, q)
 }
 
-pub fn swap_v(a: &mut [i32; 576], one: usize, two: usize, stride: usize, count: usize)
+pub fn swap_v(a: &mut [i32; ROOM_V], one: usize, two: usize, stride: usize, count: usize)
     requires { ⌜ Within (now a) one stride count ⌝ }
     requires { ⌜ Within (now a) two stride count ⌝ }
     ensures { λ r. ⌜ now (a .exit) ≡ swapF (now (a .entry)) one two stride count ⌝ }
@@ -143,16 +145,16 @@ pub fn swap_v(a: &mut [i32; 576], one: usize, two: usize, stride: usize, count: 
     swap(a, one, two, stride, count);
 }
 
-pub fn negate_v(a: &mut [i32; 576], at: usize, stride: usize, count: usize)
+pub fn negate_v(a: &mut [i32; ROOM_V], at: usize, stride: usize, count: usize)
     requires { ⌜ Within (now a) at stride count ⌝ }
     ensures { λ r. ⌜ now (a .exit) ≡ negF (now (a .entry)) at stride count ⌝ }
 {
     negate(a, at, stride, count);
 }
 
-pub fn turn_v(a: &mut [i32; 576], old: &[i32; 576], rows: usize, width: usize, by: usize)
+pub fn rotate_v(a: &mut [i32; ROOM_V], old: &[i32; ROOM_V], rows: usize, width: usize, by: usize)
     requires { ⌜ (0 < width) × (by ≤ width) × (rows * width ≤ length (now a)) × (rows * width ≤ length (now old)) ⌝ }
-    ensures { λ r. ⌜ now (a .exit) ≡ turnF (now (a .entry)) (now (old .entry)) width by (rows * width) ⌝ }
+    ensures { λ r. ⌜ now (a .exit) ≡ rotateF (now (a .entry)) (now (old .entry)) width by (rows * width) ⌝ }
 {
-    turn(a, old, rows, width, by);
+    rotate(a, old, rows, width, by);
 }

@@ -25,17 +25,19 @@ use crate::strided::add_v;
 use crate::strided::either;
 use crate::strided::negate_t;
 use crate::strided::negate_v;
+use crate::strided::rotate_t;
+use crate::strided::rotate_v;
 use crate::strided::swap_t;
 use crate::strided::swap_v;
-use crate::strided::turn_t;
-use crate::strided::turn_v;
+use checks::ROOM_H;
+use checks::ROOM_V;
 use checks::is_zero;
 
-// T is m by n, V and W are n by n, row after row without gaps; n is document 01's N.
+// T is m by cols, V and W are cols by cols, row after row without gaps; cols is document 01's N.
 pub struct Work {
-    pub t: [i32; 192],
-    pub v: [i32; 576],
-    pub w: [i32; 576],
+    pub t: [i32; ROOM_H],
+    pub v: [i32; ROOM_V],
+    pub w: [i32; ROOM_V],
     pub steps: u64,
     pub over: bool,
 }
@@ -47,7 +49,7 @@ pub struct Progress {
 }
 
 // The table that a stage looks at: V in stage 2, else T.
-pub fn table<'a>(t: &'a [i32; 192], v: &'a [i32; 576], stage2: bool) -> &'a [i32]
+pub fn table<'a>(t: &'a [i32; ROOM_H], v: &'a [i32; ROOM_V], stage2: bool) -> &'a [i32]
     ensures { λ r. ⌜ now r ≡ entriesFor stage2 (now (t .entry)) (now (v .entry)) ⌝ }
 {
     if stage2 { v } else { t }
@@ -138,75 +140,75 @@ pub fn unreduced(x: &[i32], base: usize, b: usize, lo: usize, hi: usize) -> usiz
     hi
 }
 
-// The row of the lowest entry of column c of V that is not 0; n where there is none.
-pub fn pivot_row(v: &[i32], n: usize, c: usize) -> usize
-    requires { ⌜ (c < n) × (n * n ≤ length (now v)) ⌝ }
-    ensures { λ r. ⌜ Lowest (now (v .entry)) n c r ⌝ }
+// The row of the lowest entry of column c of V that is not 0; cols where there is none.
+pub fn pivot_row(v: &[i32], cols: usize, c: usize) -> usize
+    requires { ⌜ (c < cols) × (cols * cols ≤ length (now v)) ⌝ }
+    ensures { λ r. ⌜ Lowest (now (v .entry)) cols c r ⌝ }
 {
-    let mut k = n;
+    let mut k = cols;
     while 0 < k {
         k -= 1;
-        if !is_zero(v[c + k * n]) {
+        if !is_zero(v[c + k * cols]) {
             return k;
         }
     }
-    n
+    cols
 }
 
 impl Work {
     // Columns i and j of T and V, rows i and j of W.
-    pub fn swap(mut self, m: usize, n: usize, i: usize, j: usize) -> Work
-        requires { ⌜ Fine m n self ⌝ }
-        requires { ⌜ Two n i j self ⌝ }
-        ensures { λ r. ⌜ Same m n r (swapStep i j (stateOf m n self)) ⌝ }
+    pub fn swap(mut self, m: usize, cols: usize, i: usize, j: usize) -> Work
+        requires { ⌜ Fine m cols self ⌝ }
+        requires { ⌜ Two cols i j self ⌝ }
+        ensures { λ r. ⌜ Same m cols r (swapStep i j (stateOf m cols self)) ⌝ }
     {
-        swap_t(&mut self.t, i, j, n, m);
-        swap_v(&mut self.v, i, j, n, n);
-        swap_v(&mut self.w, i * n, j * n, 1, n);
+        swap_t(&mut self.t, i, j, cols, m);
+        swap_v(&mut self.v, i, j, cols, cols);
+        swap_v(&mut self.w, i * cols, j * cols, 1, cols);
         self.steps = self.steps + 1;
         self
     }
 
-    pub fn negate(mut self, m: usize, n: usize, i: usize) -> Work
-        requires { ⌜ Fine m n self ⌝ }
-        requires { ⌜ One n i self ⌝ }
-        ensures { λ r. ⌜ Same m n r (negateStep i (stateOf m n self)) ⌝ }
+    pub fn negate(mut self, m: usize, cols: usize, i: usize) -> Work
+        requires { ⌜ Fine m cols self ⌝ }
+        requires { ⌜ One cols i self ⌝ }
+        ensures { λ r. ⌜ Same m cols r (negateStep i (stateOf m cols self)) ⌝ }
     {
-        negate_t(&mut self.t, i, n, m);
-        negate_v(&mut self.v, i, n, n);
-        negate_v(&mut self.w, i * n, 1, n);
+        negate_t(&mut self.t, i, cols, m);
+        negate_v(&mut self.v, i, cols, cols);
+        negate_v(&mut self.w, i * cols, 1, cols);
         self.steps = self.steps + 1;
         self
     }
 
     // Column j gains q times column i in T and V; in W row i loses q times row j.
-    pub fn add(mut self, m: usize, n: usize, i: usize, j: usize, q: i64) -> Work
-        requires { ⌜ Fine m n self ⌝ }
-        requires { ⌜ Two n i j self ⌝ }
+    pub fn add(mut self, m: usize, cols: usize, i: usize, j: usize, q: i64) -> Work
+        requires { ⌜ Fine m cols self ⌝ }
+        requires { ⌜ Two cols i j self ⌝ }
         requires { ⌜ natAbs q ≤ 2147483648 ⌝ }
-        ensures { λ r. ⌜ Tracks m n r (addStep i j q (stateOf m n self)) ⌝ }
+        ensures { λ r. ⌜ Tracks m cols r (addStep i j q (stateOf m cols self)) ⌝ }
     {
-        let a = add_t(&mut self.t, j, i, n, m, q);
-        let b = add_v(&mut self.v, j, i, n, n, q);
+        let a = add_t(&mut self.t, j, i, cols, m, q);
+        let b = add_v(&mut self.v, j, i, cols, cols, q);
         let p = minus(q);
-        let c = add_v(&mut self.w, i * n, j * n, 1, n, p);
+        let c = add_v(&mut self.w, i * cols, j * cols, 1, cols, p);
         self.over = either(a, either(b, c));
         self.steps = self.steps + 1;
         self
     }
 
     // The columns after a come before columns 0 to a, and the rows of W likewise.
-    pub fn reorder(mut self, m: usize, n: usize, a: usize) -> Work
-        requires { ⌜ Fine m n self ⌝ }
-        requires { ⌜ (0 < n) × (a ≤ n) ⌝ }
-        ensures { λ r. ⌜ Same m n r (steps.reorder a (stateOf m n self)) ⌝ }
+    pub fn reorder(mut self, m: usize, cols: usize, a: usize) -> Work
+        requires { ⌜ Fine m cols self ⌝ }
+        requires { ⌜ (0 < cols) × (a ≤ cols) ⌝ }
+        ensures { λ r. ⌜ Same m cols r (steps.reorder a (stateOf m cols self)) ⌝ }
     {
         let t = self.t;
         let v = self.v;
         let w = self.w;
-        turn_t(&mut self.t, &t, m, n, a);
-        turn_v(&mut self.v, &v, n, n, a);
-        turn_v(&mut self.w, &w, 1, n * n, a * n);
+        rotate_t(&mut self.t, &t, m, cols, a);
+        rotate_v(&mut self.v, &v, cols, cols, a);
+        rotate_v(&mut self.w, &w, 1, cols * cols, a * cols);
         self
     }
 
@@ -214,7 +216,7 @@ impl Work {
     fn eliminate(
         mut self,
         m: usize,
-        n: usize,
+        cols: usize,
         stage2: bool,
         row: usize,
         lo: usize,
@@ -223,12 +225,12 @@ impl Work {
         j: usize,
         q: i64,
     ) -> Work
-        requires { ⌜ Fine m n self ⌝ }
-        requires { ⌜ Ready stage2 m n row lo a p j q self ⌝ }
-        ensures { λ r. ⌜ Eliminated stage2 m n row lo a self r ⌝ }
+        requires { ⌜ Fine m cols self ⌝ }
+        requires { ⌜ Ready stage2 m cols row lo a p j q self ⌝ }
+        ensures { λ r. ⌜ Eliminated stage2 m cols row lo a self r ⌝ }
     {
-        let base = row * n;
-        let work = self.add(m, n, p, j, q);
+        let base = row * cols;
+        let work = self.add(m, cols, p, j, q);
         let x = table(&work.t, &work.v, stage2);
         let next = next_pivot(x, base, p, j);
         let k = other(x, base, next, lo, a);
@@ -238,7 +240,7 @@ impl Work {
             return self;
         }
         let r = quotient(x, base, next, k);
-        self = work.eliminate(m, n, stage2, row, lo, a, next, k, r);
+        self = work.eliminate(m, cols, stage2, row, lo, a, next, k, r);
         self
     }
 
@@ -246,24 +248,24 @@ impl Work {
     fn reduce_all(
         mut self,
         m: usize,
-        n: usize,
+        cols: usize,
         stage2: bool,
         row: usize,
         b: usize,
         lo: usize,
         hi: usize,
     ) -> Work
-        requires { ⌜ Fine m n self ⌝ }
-        requires { ⌜ Pivot stage2 m n row b self n ⌝ }
-        requires { ⌜ Apart n b lo hi ⌝ }
-        ensures { λ r. ⌜ AllReduced stage2 m n row b lo hi self r ⌝ }
+        requires { ⌜ Fine m cols self ⌝ }
+        requires { ⌜ Pivot stage2 m cols row b self cols ⌝ }
+        requires { ⌜ Apart cols b lo hi ⌝ }
+        ensures { λ r. ⌜ AllReduced stage2 m cols row b lo hi self r ⌝ }
     {
         let mut c = lo;
         while c < hi {
             let x = table(&self.t, &self.v, stage2);
-            let q = floor_quotient(x, row * n, b, c);
+            let q = floor_quotient(x, row * cols, b, c);
             if !is_none(q) {
-                self = self.add(m, n, b, c, q);
+                self = self.add(m, cols, b, c, q);
                 let over = self.over;
                 if over {
                     return self;
@@ -278,23 +280,23 @@ impl Work {
     fn row(
         mut self,
         m: usize,
-        n: usize,
+        cols: usize,
         stage2: bool,
         k: usize,
         lo: usize,
         a: usize,
         p: usize,
     ) -> Work
-        requires { ⌜ Fine m n self ⌝ }
-        requires { ⌜ RowBegun stage2 m n k lo a p self ⌝ }
-        ensures { λ r. ⌜ RowDone stage2 m n k lo a self r ⌝ }
+        requires { ⌜ Fine m cols self ⌝ }
+        requires { ⌜ RowBegun stage2 m cols k lo a p self ⌝ }
+        ensures { λ r. ⌜ RowDone stage2 m cols k lo a self r ⌝ }
     {
-        let base = k * n;
+        let base = k * cols;
         let x = table(&self.t, &self.v, stage2);
         let j = other(x, base, p, lo, a);
         if j != a {
             let q = quotient(x, base, p, j);
-            self = self.eliminate(m, n, stage2, k, lo, a, p, j, q);
+            self = self.eliminate(m, cols, stage2, k, lo, a, p, j, q);
             let over = self.over;
             if over {
                 return self;
@@ -304,31 +306,31 @@ impl Work {
         let y = table(&self.t, &self.v, stage2);
         let left = other(y, base, a, lo, a);
         if left != b {
-            self = self.swap(m, n, left, b);
+            self = self.swap(m, cols, left, b);
         }
         let z = table(&self.t, &self.v, stage2);
         if negative(z, base, b) {
-            self = self.negate(m, n, b);
+            self = self.negate(m, cols, b);
         }
         let w = table(&self.t, &self.v, stage2);
-        let c = unreduced(w, base, b, a, n);
-        if c < n {
-            self = self.reduce_all(m, n, stage2, k, b, c, n);
+        let c = unreduced(w, base, b, a, cols);
+        if c < cols {
+            self = self.reduce_all(m, cols, stage2, k, b, c, cols);
         }
         self
     }
 
     // All rows from the last to the first, each passed over where its active columns are all zero.
-    pub fn rows(mut self, m: usize, n: usize, stage2: bool, lo: usize, height: usize) -> Progress
-        requires { ⌜ Fine m n self ⌝ }
-        requires { ⌜ RowsBegun stage2 m n lo height self ⌝ }
-        ensures { λ r. ⌜ RowsDone stage2 m n lo height self (r .work) (r .a) ⌝ }
+    pub fn rows(mut self, m: usize, cols: usize, stage2: bool, lo: usize, height: usize) -> Progress
+        requires { ⌜ Fine m cols self ⌝ }
+        requires { ⌜ RowsBegun stage2 m cols lo height self ⌝ }
+        ensures { λ r. ⌜ RowsDone stage2 m cols lo height self (r .work) (r .a) ⌝ }
     {
-        let mut a = n;
+        let mut a = cols;
         let mut k = height;
         'rows: while 0 < k {
             k -= 1;
-            let base = k * n;
+            let base = k * cols;
             let mut best = a;
             let mut j = lo;
             let p = loop {
@@ -342,7 +344,7 @@ impl Work {
                 best = better(x, base, best, j, a);
                 j += 1;
             };
-            self = self.row(m, n, stage2, k, lo, a, p);
+            self = self.row(m, cols, stage2, k, lo, a, p);
             a -= 1;
             let over = self.over;
             if over {
@@ -353,19 +355,19 @@ impl Work {
     }
 
     // The first r columns of V come into range at every pivot row of the others, from the bottom row up.
-    pub fn stage3(mut self, m: usize, n: usize, r: usize) -> Work
-        requires { ⌜ Fine m n self ⌝ }
-        requires { ⌜ Stage3Begun n r self ⌝ }
-        ensures { λ x. ⌜ Tracks m n x (stages.stage3 n r n (stateOf m n self)) ⌝ }
+    pub fn stage3(mut self, m: usize, cols: usize, r: usize) -> Work
+        requires { ⌜ Fine m cols self ⌝ }
+        requires { ⌜ Stage3Begun cols r self ⌝ }
+        ensures { λ x. ⌜ Tracks m cols x (stages.stage3 cols r cols (stateOf m cols self)) ⌝ }
     {
-        let mut c = n;
+        let mut c = cols;
         while r < c {
             c -= 1;
-            let k = pivot_row(&self.v, n, c);
-            if k < n {
-                let j = unreduced(&self.v, k * n, c, 0, r);
+            let k = pivot_row(&self.v, cols, c);
+            if k < cols {
+                let j = unreduced(&self.v, k * cols, c, 0, r);
                 if j < r {
-                    self = self.reduce_all(m, n, true, k, c, j, r);
+                    self = self.reduce_all(m, cols, true, k, c, j, r);
                     let over = self.over;
                     if over {
                         return self;

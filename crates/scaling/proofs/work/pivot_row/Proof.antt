@@ -34,10 +34,10 @@ loop-holds c = (omega arith, refl)
 sub-k : tie.Need-sub-k Inv-loop μ-loop
 sub-k c = omega arith
 
-entry-in : (c : tie.In-loop Inv-loop μ-loop) → let a = c .before .before .args in a .c + (c .before .loop .k - 1) * a .n < length (a .v .now)
+entry-in : (c : tie.In-loop Inv-loop μ-loop) → let a = c .before .before .args in a .c + (c .before .loop .k - 1) * a .cols < length (a .v .now)
 entry-in c =
     let s = c .before .before in
-    omega (arith, cell {j = s .args .c} {n = s .args .n} {k = c .before .loop .k - 1} {m = s .args .n} (s .pre .0) (omega arith), s .pre .1)
+    omega (arith, cell {j = s .args .c} {n = s .args .cols} {k = c .before .loop .k - 1} {m = s .args .cols} (s .pre .0) (omega arith), s .pre .1)
 
 mul-is-zero : tie.Need-mul-is-zero Inv-loop μ-loop
 mul-is-zero c = let h = entry-in c in omega arith
@@ -55,11 +55,11 @@ is-zero-requires : tie.Need-is-zero-requires Inv-loop μ-loop
 is-zero-requires c κs = search needs
 
 test : (c : tie.After-is-zero Inv-loop μ-loop) → let i = c .before .before in let a = i .before .before .args in
-    c .is-zero .result ≡ isZero (nth (a .v .now) (a .c + (i .before .loop .k - 1) * a .n))
+    c .is-zero .result ≡ isZero (nth (a .v .now) (a .c + (i .before .loop .k - 1) * a .cols))
 test c =
     let i = c .before .before in
     let a = i .before .before .args in
-    c .is-zero .ensures ∙ ap isZero (held (nth (a .v .now) (a .c + (i .before .loop .k - 1) * a .n)) (c .before .is-zero-arg .given))
+    c .is-zero .ensures ∙ ap isZero (held (nth (a .v .now) (a .c + (i .before .loop .k - 1) * a .cols)) (c .before .is-zero-arg .given))
 
 returns : tie.Need-returns Inv-loop μ-loop
 returns c =
@@ -69,8 +69,8 @@ returns c =
     let e : suc (l .k - 1) ≡ l .k = omega arith in
     record {
       upto = omega arith;
-      hit = λ _. l .inv .1 ∙ ap (last (filled (a .v .now) (a .n) (a .c))) (sym e)
-          ∙ last-hit (filled (a .v .now) (a .n) (a .c)) (l .k - 1) (ap not (sym (test (c .before))) ∙ c .if1 .taken);
+      hit = λ _. l .inv .1 ∙ ap (last (filled (a .v .now) (a .cols) (a .c))) (sym e)
+          ∙ last-hit (filled (a .v .now) (a .cols) (a .c)) (l .k - 1) (ap not (sym (test (c .before))) ∙ c .if1 .taken);
       miss = λ h. absurd (omega arith);
     }
 
@@ -84,8 +84,8 @@ loop-again c =
     let a = i .before .before .args in
     let e : suc (l .k - 1) ≡ l .k = omega arith in (
       omega arith,
-      l .inv .1 ∙ ap (last (filled (a .v .now) (a .n) (a .c))) (sym e)
-          ∙ last-more (filled (a .v .now) (a .n) (a .c)) (l .k - 1) (ap not (sym (test (c .before))) ∙ c .if1 .left),
+      l .inv .1 ∙ ap (last (filled (a .v .now) (a .cols) (a .c))) (sym e)
+          ∙ last-more (filled (a .v .now) (a .cols) (a .c)) (l .k - 1) (ap not (sym (test (c .before))) ∙ c .if1 .left),
     )
 
 returns-2 : tie.Need-returns-2 Inv-loop μ-loop
@@ -93,7 +93,7 @@ returns-2 c =
     let l = c .before .loop in
     let a = c .before .before .args in
     let e : l .k ≡ 0 = omega arith in
-    record { upto = omega arith; hit = λ h. absurd (omega arith); miss = λ _. (rw e at (l .inv .1)) ∙ last-end (filled (a .v .now) (a .n) (a .c)) }
+    record { upto = omega arith; hit = λ h. absurd (omega arith); miss = λ _. (rw e at (l .inv .1)) ∙ last-end (filled (a .v .now) (a .cols) (a .c)) }
 
 pub pivot-row-spec : {M : Type 1} → statement M
 pivot-row-spec =

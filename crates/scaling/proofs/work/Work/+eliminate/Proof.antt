@@ -56,7 +56,7 @@ claims t = (
 
 module _ (t : ℕ) where
   -- what was asked at the start
-  ready : (c : lts.Start (claims t) (at t) eliminate.Post) → let a = c .args in Ready (a .stage2) (a .m) (a .n) (a .row) (a .lo) (a .a) (a .p) (a .j) (toZ w64 (ofZ w64 (a .q))) (a .self)
+  ready : (c : lts.Start (claims t) (at t) eliminate.Post) → let a = c .args in Ready (a .stage2) (a .m) (a .cols) (a .row) (a .lo) (a .a) (a .p) (a .j) (toZ w64 (ofZ w64 (a .q))) (a .self)
   ready c = rw (toZ-ofZ (c .fits .q)) (c .pre .1 .1)
 
   long : (c : lts.After-add (claims t) (at t) eliminate.Post) → Long (c .add .result)
@@ -65,14 +65,14 @@ module _ (t : ℕ) where
   -- the row, after the addition
   table-row : (c : lts.After-table (claims t) (at t) eliminate.Post)
       → let d = c .before .before .before .before in let a = d .before .args in
-      RowIn (a .stage2) (a .m) (a .n) (a .row) (d .add .result) (now (c .table .result))
+      RowIn (a .stage2) (a .m) (a .cols) (a .row) (d .add .result) (now (c .table .result))
   table-row c =
       let d = c .before .before .before .before in let s = d .before in
       row-of-table (s .args .stage2) (s .pre .1 .0) (s .pre .1 .1 .row-in) (long d) (c .table .ensures)
 
   goes : (c : lts.Else1 (claims t) (at t) eliminate.Post)
       → let o = c .before .before in let w = o .before .before in let d = w .before .before .before .before in let a = d .before .args in
-      GoesOn (a .stage2) (a .m) (a .n) (a .row) (a .lo) (a .a) (a .self) (d .add .result)
+      GoesOn (a .stage2) (a .m) (a .cols) (a .row) (a .lo) (a .a) (a .self) (d .add .result)
       (now (w .table .result)) (o .before .next-pivot .result) (o .other .result)
   goes c =
       let o = c .before .before in let w = o .before .before in let d = w .before .before .before .before in

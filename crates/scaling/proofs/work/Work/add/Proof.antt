@@ -45,10 +45,10 @@ minus-requires : tie.Need-minus-requires
 minus-requires c κs = q-small (c .before .before .before .before)
 
 module _ (s : tie.Start) where
-  row-i : s .args .i * s .args .n < 576
+  row-i : s .args .i * s .args .cols < 576
   row-i = row-start (s .pre .0) (s .args .i) (s .pre .1 .0 .i-in)
 
-  row-j : s .args .j * s .args .n < 576
+  row-j : s .args .j * s .args .cols < 576
   row-j = row-start (s .pre .0) (s .args .j) (s .pre .1 .0 .j-in)
 
 mul-add-v : tie.Need-mul-add-v

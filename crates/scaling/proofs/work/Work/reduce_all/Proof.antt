@@ -36,16 +36,16 @@ table-requires c κs = search needs
 -- the row at column c, and the pivot there
 table-row : (c : tie.After-table Inv-loop μ-loop)
     → let l = c .before .before .before .before .before in let a = l .before .args in
-    RowIn (a .stage2) (a .m) (a .n) (a .row) (l .loop .self) (now (c .table .result))
+    RowIn (a .stage2) (a .m) (a .cols) (a .row) (l .loop .self) (now (c .table .result))
 table-row c =
     let l = c .before .before .before .before .before in let s = l .before in
     row-of-table (s .args .stage2) (s .pre .0) (s .pre .1 .0 .row-in) (l .loop .inv .long) (c .table .ensures)
 
 pivot : (c : tie.In-loop Inv-loop μ-loop)
-    → let l = c .before in let a = l .before .args in Pivot (a .stage2) (a .m) (a .n) (a .row) (a .b) (l .loop .self) 1
+    → let l = c .before in let a = l .before .args in Pivot (a .stage2) (a .m) (a .cols) (a .row) (a .b) (l .loop .self) 1
 pivot c = let l = c .before in let s = l .before in reducing-pivot (s .pre .1 .0) (s .pre .1 .1) (l .loop .inv) (c .loop-test .taken)
 
-column-in : (c : tie.In-loop Inv-loop μ-loop) → c .before .loop .c < c .before .before .args .n
+column-in : (c : tie.In-loop Inv-loop μ-loop) → c .before .loop .c < c .before .before .args .cols
 column-in c = omega (arith, c .before .before .pre .1 .1 .upto, c .loop-test .taken)
 
 apart : (c : tie.In-loop Inv-loop μ-loop) → c .before .before .args .b ≢ c .before .loop .c
@@ -54,7 +54,7 @@ apart c = let l = c .before in l .before .pre .1 .1 .apart (l .loop .c) (l .loop
 -- q, as it is passed on
 q-is : (c : tie.After-floor-quotient Inv-loop μ-loop)
     → let l = c .before .before .before .before .before .before in let a = l .before .args in let xs = now (c .before .table .result) in
-    toZ w64 (ofZ w64 (c .floor-quotient .result)) ≡ negℤ (floorZ (nth xs (l .loop .c + a .row * a .n)) (nth xs (a .b + a .row * a .n)))
+    toZ w64 (ofZ w64 (c .floor-quotient .result)) ≡ negℤ (floorZ (nth xs (l .loop .c + a .row * a .cols)) (nth xs (a .b + a .row * a .cols)))
 q-is c = toZ-ofZ {w = w64} (record { sfits = c .floor-quotient .ok }) ∙ c .floor-quotient .ensures
 
 mul-floor-quotient : tie.Need-mul-floor-quotient Inv-loop μ-loop
@@ -84,14 +84,14 @@ add-requires c κs =
 -- what the column becomes, where nothing is to be added and where something is
 already : (c : tie.After-is-none Inv-loop μ-loop) → c .is-none .result ≡ true
     → let l = c .before .before .before .before .before .before .before in let a = l .before .args in
-    Reduced (a .stage2) (a .m) (a .n) (a .row) (a .b) (l .loop .c) (l .loop .self) (l .loop .self)
+    Reduced (a .stage2) (a .m) (a .cols) (a .row) (a .b) (l .loop .c) (l .loop .self) (l .loop .self)
 already c e =
     let q = c .before in let i = q .before .before .before .before .before in let l = i .before .loop in
     reduced-already (table-row (q .before)) (l .inv .fine) (pivot i) (l .c) (column-in i) _ (q-is q) (sym (c .is-none .ensures) ∙ e)
 
 now-added : (c : tie.After-add Inv-loop μ-loop)
     → let l = c .before .before .before .before .before .before .before .before .before in let a = l .before .args in
-    Reduced (a .stage2) (a .m) (a .n) (a .row) (a .b) (l .loop .c) (l .loop .self) (c .add .result)
+    Reduced (a .stage2) (a .m) (a .cols) (a .row) (a .b) (l .loop .c) (l .loop .self) (c .add .result)
 now-added c =
     let q = c .before .before .before in let i = q .before .before .before .before .before in let l = i .before .loop in
     reduced-now (table-row (q .before)) (l .inv .fine) (pivot i) (l .c) (column-in i) _ (q-is q)

@@ -12,32 +12,32 @@ use Rattle.scaling.proofs.work.Work.reorder.Tie as tie
 long : (s : tie.Start) → Long (s .args .t1)
 long s = record { t = search needs; v = search needs; w = search needs }
 
-turn-t-requires : tie.Need-turn-t-requires
-turn-t-requires c κs =
+rotate-t-requires : tie.Need-rotate-t-requires
+rotate-t-requires c κs =
     let s = c .before .before .before .before .before in let p = s .pre .1 in
     (p .0, p .1, t-room (s .pre .0) (long s), t-room (s .pre .0) (long s))
 
-turn-v-requires : tie.Need-turn-v-requires
-turn-v-requires c κs =
+rotate-v-requires : tie.Need-rotate-v-requires
+rotate-v-requires c κs =
     let s = c .before .before .before .before .before .before .before .before in let p = s .pre .1 in
     (p .0, p .1, omega (arith, v-room (s .pre .0) (long s)), omega (arith, v-room (s .pre .0) (long s)))
 
-mul-turn-v : tie.Need-mul-turn-v
-mul-turn-v c =
+mul-rotate-v : tie.Need-mul-rotate-v
+mul-rotate-v c =
     let s = c .before .before .before .before .before .before .before .before .before .before .before in
-    omega (arith, square (s .args .m) (s .args .n) (s .args .t1) (s .pre .0))
+    omega (arith, square (s .args .m) (s .args .cols) (s .args .t1) (s .pre .0))
 
-mul-turn-v-2 : tie.Need-mul-turn-v-2
-mul-turn-v-2 c =
+mul-rotate-v-2 : tie.Need-mul-rotate-v-2
+mul-rotate-v-2 c =
     let s = c .before .before .before .before .before .before .before .before .before .before .before in
-    omega (arith, square (s .args .m) (s .args .n) (s .args .t1) (s .pre .0), mul-le-mul {n₁ = s .args .a} {m₁ = s .args .n} (s .pre .1 .1) (le-refl (s .args .n)))
+    omega (arith, square (s .args .m) (s .args .cols) (s .args .t1) (s .pre .0), mul-le-mul {n₁ = s .args .a} {m₁ = s .args .cols} (s .pre .1 .1) (le-refl (s .args .cols)))
 
-turn-v-requires-2 : tie.Need-turn-v-requires-2
-turn-v-requires-2 c κs =
+rotate-v-requires-2 : tie.Need-rotate-v-requires-2
+rotate-v-requires-2 c κs =
     let s = c .before .before .before .before .before .before .before .before .before .before .before in
     let p = s .pre .1 in (
-      omega (arith, cell {j = 0} {n = s .args .n} {k = 0} {m = s .args .n} (p .0) (p .0)),
-      omega (arith, mul-le-mul {n₁ = s .args .a} {m₁ = s .args .n} (p .1) (le-refl (s .args .n))),
+      omega (arith, cell {j = 0} {n = s .args .cols} {k = 0} {m = s .args .cols} (p .0) (p .0)),
+      omega (arith, mul-le-mul {n₁ = s .args .a} {m₁ = s .args .cols} (p .1) (le-refl (s .args .cols))),
       omega (arith, w-room (s .pre .0) (long s)),
       omega (arith, w-room (s .pre .0) (long s)),
     )
@@ -47,9 +47,9 @@ returns c =
     let s = c .before .before .before .before .before .before .before .before .before .before .before .before in
     reorder-same _ (s .pre .0) (long s) (s .args .a) (s .pre .1 .0) (s .pre .1 .1)
     (record {
-      t = c .before .before .before .before .before .before .turn-t .ensures;
-      v = c .before .before .before .turn-v .ensures;
-      w = c .turn-v2 .ensures;
+      t = c .before .before .before .before .before .before .rotate-t .ensures;
+      v = c .before .before .before .rotate-v .ensures;
+      w = c .rotate-v2 .ensures;
       steps = refl;
       over = refl;
     })
@@ -57,4 +57,4 @@ returns c =
 pub reorder-spec : {M : Type 1} → statement M
 reorder-spec =
     tie.close
-    (tie.spec turn-t-requires turn-v-requires mul-turn-v mul-turn-v-2 turn-v-requires-2 returns)
+    (tie.spec rotate-t-requires rotate-v-requires mul-rotate-v mul-rotate-v-2 rotate-v-requires-2 returns)

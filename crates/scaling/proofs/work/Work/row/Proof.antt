@@ -23,7 +23,7 @@ use Rattle.scaling.proofs.work.Work.row.Statement.{statement}
 use Rattle.scaling.proofs.work.Work.row.Tie as tie
 
 -- ---- (A)
-row-1 : (c : tie.After-table) → let a = c .before .before .before .before .args in RowIn (a .stage2) (a .m) (a .n) (a .k) (a .t1) (now (c .table .result))
+row-1 : (c : tie.After-table) → let a = c .before .before .before .before .args in RowIn (a .stage2) (a .m) (a .cols) (a .k) (a .t1) (now (c .table .result))
 row-1 c =
     let s = c .before .before .before .before in
     row-of-table (s .args .stage2) (s .pre .0) (s .pre .1 .row-in) (record { t = search needs; v = search needs; w = search needs }) (c .table .ensures)
@@ -36,7 +36,7 @@ long-0 c = record { t = search needs; v = search needs; w = search needs }
 
 swept : (c : tie.Joined1)
     → let a = c .before .before .before .before .before .before .args in let w = c .if1 .self in
-    Eliminated (a .stage2) (a .m) (a .n) (a .k) (a .lo) (a .a) (a .t1) w × (w .over ≡ false) × Long w
+    Eliminated (a .stage2) (a .m) (a .cols) (a .k) (a .lo) (a .a) (a .t1) w × (w .over ≡ false) × Long w
 swept c =
     let o = c .before in let s = c .before .before .before .before .before .before in
     ⊎-elim
@@ -81,19 +81,19 @@ sub-b : tie.Need-sub-b
 sub-b c = let s = c .before .before .before .before .before .before in omega (arith, row-p (s .pre .0) (s .pre .1))
 
 row-2 : (c : tie.After-table2)
-    → let j = c .before .before .before .before in let a = j .before .before .before .before .before .before .args in RowIn (a .stage2) (a .m) (a .n) (a .k) (j .if1 .self) (now (c .table2 .result))
+    → let j = c .before .before .before .before in let a = j .before .before .before .before .before .before .args in RowIn (a .stage2) (a .m) (a .cols) (a .k) (j .if1 .self) (now (c .table2 .result))
 row-2 c =
     let j = c .before .before .before .before in let s = j .before .before .before .before .before .before in
     row-of-table (s .args .stage2) (s .pre .0) (s .pre .1 .row-in) (swept j .2) (c .table2 .ensures)
 
 pivot-2 : (c : tie.After-other2)
-    → let j = c .before .before .before .before .before in let a = j .before .before .before .before .before .before .args in Pivot (a .stage2) (a .m) (a .n) (a .k) (c .other2 .result) (j .if1 .self) (a .n + 2)
+    → let j = c .before .before .before .before .before in let a = j .before .before .before .before .before .before .args in Pivot (a .stage2) (a .m) (a .cols) (a .k) (c .other2 .result) (j .if1 .self) (a .cols + 2)
 pivot-2 c =
     let j = c .before .before .before .before .before in let s = j .before .before .before .before .before .before in let e = swept j in
     row-pivot (s .pre .0) (s .pre .1) (e .0) (e .1) (row-2 (c .before)) (c .other2 .ensures)
 
 -- b is a column
-column : (c : tie.Start) → c .args .a - 1 < c .args .n
+column : (c : tie.Start) → c .args .a - 1 < c .args .cols
 column c = omega (arith, row-p (c .pre .0) (c .pre .1), c .pre .1 .a-in)
 
 table-requires-2 : tie.Need-table-requires-2
@@ -114,23 +114,23 @@ long-3 c = record { t = search needs; v = search needs; w = search needs }
 
 brought : (c : tie.Joined3)
     → let o = c .before in let j = o .before .before .before .before .before in let a = j .before .before .before .before .before .before .args in
-    Same (a .m) (a .n) (c .if3 .self) (bring (o .other2 .result) (a .a - 1) (stateOf (a .m) (a .n) (j .if1 .self))) × Long (c .if3 .self)
+    Same (a .m) (a .cols) (c .if3 .self) (bring (o .other2 .result) (a .a - 1) (stateOf (a .m) (a .cols) (j .if1 .self))) × Long (c .if3 .self)
 brought c =
     let o = c .before in let j = o .before .before .before .before .before in let a = j .before .before .before .before .before .before .args in
     ⊎-elim
-    (λ w. rw (w .2, bring-swaps (o .other2 .result) (a .a - 1) (stateOf (a .m) (a .n) (j .if1 .self)) (w .0 .taken))
+    (λ w. rw (w .2, bring-swaps (o .other2 .result) (a .a - 1) (stateOf (a .m) (a .cols) (j .if1 .self)) (w .0 .taken))
     (w .1 .ensures, long-3 (record { before = record { before = o; if3 = w .0 }; swap = w .1 })))
     (λ w. rw (w .1) (bring-same (swept j .0 .tracks .fine (swept j .1)) (o .other2 .result) (a .a - 1) (w .0 .left), swept j .2))
     (c .if3 .came)
 
 -- ---- its sign
 row-3 : (c : tie.After-table3)
-    → let j = c .before .before .before .before in let a = j .before .before .before .before .before .before .before .before .before .before .before .before .args in RowIn (a .stage2) (a .m) (a .n) (a .k) (j .if3 .self) (now (c .table3 .result))
+    → let j = c .before .before .before .before in let a = j .before .before .before .before .before .before .before .before .before .before .before .before .args in RowIn (a .stage2) (a .m) (a .cols) (a .k) (j .if3 .self) (now (c .table3 .result))
 row-3 c =
     let j = c .before .before .before .before in let s = j .before .before .before .before .before .before .before .before .before .before .before .before in
     row-of-table (s .args .stage2) (s .pre .0) (s .pre .1 .row-in) (brought j .1) (c .table3 .ensures)
 
-pivot-3 : (c : tie.Joined3) → let a = c .before .before .before .before .before .before .before .before .before .before .before .before .args in Pivot (a .stage2) (a .m) (a .n) (a .k) (a .a - 1) (c .if3 .self) 1
+pivot-3 : (c : tie.Joined3) → let a = c .before .before .before .before .before .before .before .before .before .before .before .before .args in Pivot (a .stage2) (a .m) (a .cols) (a .k) (a .a - 1) (c .if3 .self) 1
 pivot-3 c = let s = c .before .before .before .before .before .before .before .before .before .before .before .before in brought-pivot (pivot-2 (c .before)) (s .args .a - 1) (column s) (brought c .0)
 
 table-requires-3 : tie.Need-table-requires-3
@@ -149,7 +149,7 @@ long-4 c = record { t = search needs; v = search needs; w = search needs }
 
 signed : (c : tie.Joined4)
     → let j = c .before .before .before .before .before .before in let a = j .before .before .before .before .before .before .before .before .before .before .before .before .args in
-    Same (a .m) (a .n) (c .if4 .self) (makePositive (tableFor (a .stage2)) (a .k) (a .a - 1) (stateOf (a .m) (a .n) (j .if3 .self))) × Long (c .if4 .self)
+    Same (a .m) (a .cols) (c .if4 .self) (makePositive (tableFor (a .stage2)) (a .k) (a .a - 1) (stateOf (a .m) (a .cols) (j .if3 .self))) × Long (c .if4 .self)
 signed c =
     let g = c .before in let t = g .before in let j = c .before .before .before .before .before .before in let s = j .before .before .before .before .before .before .before .before .before .before .before .before in
     ⊎-elim
@@ -165,12 +165,12 @@ signed c =
 
 -- ---- the columns after it
 row-4 : (c : tie.After-table4)
-    → let j = c .before .before .before .before in let a = j .before .before .before .before .before .before .before .before .before .before .before .before .before .before .before .before .before .before .args in RowIn (a .stage2) (a .m) (a .n) (a .k) (j .if4 .self) (now (c .table4 .result))
+    → let j = c .before .before .before .before in let a = j .before .before .before .before .before .before .before .before .before .before .before .before .before .before .before .before .before .before .args in RowIn (a .stage2) (a .m) (a .cols) (a .k) (j .if4 .self) (now (c .table4 .result))
 row-4 c =
     let j = c .before .before .before .before in let s = j .before .before .before .before .before .before .before .before .before .before .before .before .before .before .before .before .before .before in
     row-of-table (s .args .stage2) (s .pre .0) (s .pre .1 .row-in) (signed j .1) (c .table4 .ensures)
 
-pivot-4 : (c : tie.Joined4) → let a = c .before .before .before .before .before .before .before .before .before .before .before .before .before .before .before .before .before .before .args in Pivot (a .stage2) (a .m) (a .n) (a .k) (a .a - 1) (c .if4 .self) (a .n)
+pivot-4 : (c : tie.Joined4) → let a = c .before .before .before .before .before .before .before .before .before .before .before .before .before .before .before .before .before .before .args in Pivot (a .stage2) (a .m) (a .cols) (a .k) (a .a - 1) (c .if4 .self) (a .cols)
 pivot-4 c =
     let j = c .before .before .before .before .before .before in let s = j .before .before .before .before .before .before .before .before .before .before .before .before in
     signed-pivot (pivot-2 (j .before)) (s .args .a - 1) (column s) (brought j .0) (signed c .0)
@@ -193,14 +193,14 @@ reduce-all-requires c κs =
 
 done : (c : tie.After-unreduced)
     → let j = c .before .before .before .before .before in let a = j .before .before .before .before .before .before .before .before .before .before .before .before .before .before .before .before .before .before .args in (r : Work)
-    → AllReduced (a .stage2) (a .m) (a .n) (a .k) (a .a - 1) (a .a) (a .n) (j .if4 .self) r
-    → RowDone (a .stage2) (a .m) (a .n) (a .k) (a .lo) (a .a) (a .t1) r
+    → AllReduced (a .stage2) (a .m) (a .cols) (a .k) (a .a - 1) (a .a) (a .cols) (j .if4 .self) r
+    → RowDone (a .stage2) (a .m) (a .cols) (a .k) (a .lo) (a .a) (a .t1) r
 done c r x =
     let j = c .before .before .before .before .before in let i = j .before .before .before .before .before .before in let o = i .before in let e = o .before .before .before .before .before in let s = e .before .before .before .before .before .before in let a = s .args in
     let next : a .a ≡ a .a - 1 + 1 = omega (arith, row-p (s .pre .0) (s .pre .1)) in
     row-done (s .pre .0) (s .pre .1) (swept e .0) (swept e .1) (row-2 (o .before)) (o .other2 .ensures)
     (settled (pivot-2 o) (a .a - 1) (column s) (brought i .0) (signed j .0)
-    (subst (λ (lo : ℕ). AllReduced (a .stage2) (a .m) (a .n) (a .k) (a .a - 1) lo (a .n) (j .if4 .self) r) next x))
+    (subst (λ (lo : ℕ). AllReduced (a .stage2) (a .m) (a .cols) (a .k) (a .a - 1) lo (a .cols) (j .if4 .self) r) next x))
 
 returns-2 : tie.Need-returns-2
 returns-2 c =

@@ -43,7 +43,7 @@ mul-base c =
 loop-holds : tie.Need-loop-holds Inv-loop μ-loop Inv-rows μ-rows
 loop-holds c =
     let g = c .before .rows in let a = c .before .before .args in
-    best-start (sizes (entriesFor (a .stage2) (g .self .t) (g .self .v)) ((g .k - 1) * a .n)) (a .lo) (g .a) (g .inv .low)
+    best-start (sizes (entriesFor (a .stage2) (g .self .t) (g .self .v)) ((g .k - 1) * a .cols)) (a .lo) (g .a) (g .inv .low)
 
 rows-less : tie.Need-rows-less Inv-loop μ-loop Inv-rows μ-rows
 rows-less c = omega (arith, c .before .before .before .rows-test .taken)

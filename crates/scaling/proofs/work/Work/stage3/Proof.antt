@@ -34,14 +34,14 @@ pivot-row-requires c κs =
 
 -- the pivot's row, and what is known where it is there
 row : (c : tie.After-pivot-row Inv-loop μ-loop) → let l = c .before .before .before .before .before in let a = l .before .args in
-    c .pivot-row .result < a .n → RowIn true (a .m) (a .n) (c .pivot-row .result) (l .loop .self) (l .loop .self .v)
+    c .pivot-row .result < a .cols → RowIn true (a .m) (a .cols) (c .pivot-row .result) (l .loop .self) (l .loop .self .v)
 row c h =
     let l = c .before .before .before .before .before .loop in
     let e : length (l .self .v) ≡ 576 = search needs in
     row-of-v (l .inv .fine) h e
 
 pivot : (c : tie.After-pivot-row Inv-loop μ-loop) → let l = c .before .before .before .before .before in let a = l .before .args in
-    c .pivot-row .result < a .n → Pivot true (a .m) (a .n) (c .pivot-row .result) (l .loop .c - 1) (l .loop .self) (a .n)
+    c .pivot-row .result < a .cols → Pivot true (a .m) (a .cols) (c .pivot-row .result) (l .loop .c - 1) (l .loop .self) (a .cols)
 pivot c h = let i = c .before .before .before .before in third-pivot (i .before .before .pre .1) (i .before .loop .inv) (i .loop-test .taken) (c .pivot-row .ensures) h
 
 mul-unreduced : tie.Need-mul-unreduced Inv-loop μ-loop
@@ -63,8 +63,8 @@ reduce-all-requires c κs =
 -- column c, once the first r columns are in range at it
 all : (c : tie.After-unreduced Inv-loop μ-loop)
     → let l = c .before .before .before .before .before .before .before .before .before .before in let a = l .before .args in let k = c .before .before .before .before .before .pivot-row .result in (w : Work)
-    → AllReduced true (a .m) (a .n) k (l .loop .c - 1) (c .unreduced .result) (a .r) (l .loop .self) w
-    → AllReduced true (a .m) (a .n) k (l .loop .c - 1) 0 (a .r) (l .loop .self) w
+    → AllReduced true (a .m) (a .cols) k (l .loop .c - 1) (c .unreduced .result) (a .r) (l .loop .self) w
+    → AllReduced true (a .m) (a .cols) k (l .loop .c - 1) 0 (a .r) (l .loop .self) w
 all c w =
     let t = c .before .before .before .before in let p = t .before in let l = p .before .before .before .before .before in
     reduced-rest (row p (t .if1 .taken)) (l .loop .inv .fine) (pivot p (t .if1 .taken)) (l .before .pre .1 .r-in) (c .unreduced .ensures) (omega arith)

@@ -1,4 +1,4 @@
--- `strided::turn` meets its contract: after k turns the list is `turnF` at k.
+-- `strided::rotate` meets its contract: after k turns the list is `rotateF` at k.
 use mathlib.Core.Path.{_≡_, refl, ap, sym, _∙_}
 use mathlib.Core.List.{List}
 use Prim.Native.Nat.{ℕ, _≤_, _<_, _-_, _*_}
@@ -10,27 +10,27 @@ use lib.ListN.{length, set, length-set}
 use lib.IntN.{ℤ}
 use mir.Syntax.{w32}
 use mir.Facts.{toZ-ofZ}
-use Rattle.scaling.specs.Flat.{turnF, turnFrom}
-use Rattle.scaling.proofs.Places.{turn-in, some-row}
-use Rattle.scaling.proofs.strided.turn.Statement.{statement}
-use Rattle.scaling.proofs.strided.turn.Tie as tie
+use Rattle.scaling.specs.Flat.{rotateF, rotateFrom}
+use Rattle.scaling.proofs.Places.{rotate-in, some-row}
+use Rattle.scaling.proofs.strided.rotate.Statement.{statement}
+use Rattle.scaling.proofs.strided.rotate.Tie as tie
 
 abbrev Inv-loop : tie.InvT-loop
-Inv-loop a₀ old rows width by k₀ a k = (k ≤ rows * width) × (length a ≡ length a₀) × (a ≡ turnF a₀ old width by k)
+Inv-loop a₀ old rows width by k₀ a k = (k ≤ rows * width) × (length a ≡ length a₀) × (a ≡ rotateF a₀ old width by k)
 
 abbrev μ-loop : tie.MeasureT-loop
 μ-loop a₀ old rows width by k₀ a k = rows * width - k
 
 -- where the entry of a turn stood is in the old list
 module _ (c : tie.In-loop Inv-loop μ-loop) where
-  from-in : turnFrom (c .before .before .args .width) (c .before .before .args .by) (c .before .loop .k) < c .before .before .args .rows * c .before .before .args .width
-  from-in = turn-in _ _ _ _ (c .before .before .pre .0) (c .loop-test .taken)
+  from-in : rotateFrom (c .before .before .args .width) (c .before .before .args .by) (c .before .loop .k) < c .before .before .args .rows * c .before .before .args .width
+  from-in = rotate-in _ _ _ _ (c .before .before .pre .0) (c .loop-test .taken)
 
   width-in : c .before .before .args .width ≤ c .before .before .args .rows * c .before .before .args .width
   width-in = some-row _ _ _ (c .loop-test .taken)
 
 loop-holds : tie.Need-loop-holds Inv-loop μ-loop
-unfolding turnF
+unfolding rotateF
 loop-holds c = (omega arith, refl, refl)
 
 mul-loop : tie.Need-mul-loop Inv-loop μ-loop
@@ -76,12 +76,12 @@ step : (k : ℕ) {a f : List ℤ} {x y : ℤ} → a ≡ f → x ≡ y → set a 
 step k e g = rw (e, g)
 
 loop-again : tie.Need-loop-again Inv-loop μ-loop
-unfolding turnF
+unfolding rotateF
 loop-again c =
     let l = c .before .before .loop in (
       omega arith,
       length-set (l .a) _ _ ∙ l .inv .1,
-      step (l .k) (l .inv .2) (toZ-ofZ {w = w32} (record { sfits = c .x .given })) ∙ sym (ap (turnF _ _ _ _) (add-one (l .k))),
+      step (l .k) (l .inv .2) (toZ-ofZ {w = w32} (record { sfits = c .x .given })) ∙ sym (ap (rotateF _ _ _ _) (add-one (l .k))),
     )
 
 same-length : tie.Need-same-length Inv-loop μ-loop
@@ -92,8 +92,8 @@ returns c =
     let e : c .before .loop .k ≡ c .before .before .args .rows * c .before .before .args .width = omega arith in
     rw e at (c .before .loop .inv .2)
 
-pub turn-spec : {M : Type 1} → statement M
-turn-spec =
+pub rotate-spec : {M : Type 1} → statement M
+rotate-spec =
     tie.close
     (tie.spec
     Inv-loop
