@@ -68,6 +68,18 @@ pub data Tells (P : Problem) (f : Formula) (out : List TextLine) : (number place
   a-refusal : {number place : ℕ} → OneRefusal number place out → Tells P f out number place
   a-solution : SolutionLines P f out → Tells P f out 0 0
 
+-- no lines tell two answers
+pub one-told : {P : Problem} {f : Formula} {out : List TextLine} {k p k′ p′ : ℕ} → Tells P f out k p → Tells P f out k′ p′ → (k ≡ k′) × (p ≡ p′)
+one-told (a-refusal R) (a-refusal Q) = one-refusal-read R Q
+one-told (a-refusal R) (a-solution Q) = absurd (refusal-not-solution R Q)
+one-told (a-solution Q) (a-refusal R) = absurd (refusal-not-solution R Q)
+one-told (a-solution Q) (a-solution _) = (refl, refl)
+
+pub record Told (P : Problem) (f : Formula) (out : List TextLine) : Type 0 where
+  pub number : ℕ
+  pub place : ℕ
+  pub tells : Tells P f out number place
+
 module _ (input : List ℕ) (r : Text) (promise : Shows r (program input)) where
   abbrev ls : List TextLine
   ls = linesOf input
@@ -93,6 +105,14 @@ module _ (input : List ℕ) (r : Text) (promise : Shows r (program input)) where
       go (accepted F a) =
           let T = taken-if ls F .0 a in
           solution-read-back (problemSaid ls) (T .problem) (formulaSaid ls) (coefficients-fit ls F) (T .its-terms)
+
+  -- every output tells an answer
+  pub always-told : Told (problemSaid (linesOf input)) (formulaSaid (linesOf input)) (linesOf (shown r))
+  always-told = go (program-answered input r promise .verdict) (program-answered input r promise .given)
+    where
+      go : (v : Verdict) → Answers ls v → Told (problemSaid ls) (formulaSaid ls) out
+      go (refused k p) A = record { number = k; place = p; tells = a-refusal (refusal-printed k p A) }
+      go taken A = record { number = 0; place = 0; tells = a-solution (solution-printed A) }
 
   -- ---- and the answer by the lines
   pub refusal-exactly : (number place : ℕ) → OneRefusal number place (linesOf (shown r)) ↔ Answers (linesOf input) (refused number place)
