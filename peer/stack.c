@@ -184,7 +184,7 @@ static void read_problems(void)
             fail("the ladder does not begin with 0, 1 and 2 repetitions");
 }
 
-/* 10936 as 10,936. */
+/* 10912 as 10,912. */
 static const char *grouped(long x)
 {
     static char text[8][32];
@@ -237,13 +237,16 @@ int main(void)
         measure(at);
 
     /* From one repetition on the bytes should lie on a line: a level is what two repetitions take more than one. */
-    long level[CALLS], fixed[CALLS], bound[CALLS], more[PROBLEMS][CALLS];
+    long level[CALLS], fixed[CALLS], bound[CALLS];
+    static long more[PROBLEMS][CALLS];
     int line = 1;
     for (int call = 0; call < CALLS; call++) {
         level[call] = bytes[2][call] - bytes[1][call];
         fixed[call] = bytes[1][call] - level[call];
         bound[call] = fixed[call] + BOUND * level[call];
         for (int at = 1; at < count; at++) {
+            if (problems[at].repetitions == 0)
+                continue;
             more[at][call] = bytes[at][call] - fixed[call] - problems[at].repetitions * level[call];
             line &= more[at][call] == 0;
         }
@@ -260,13 +263,16 @@ int main(void)
         char first[16];
         sprintf(first, "%d", BOUND);
         row(first, "computed: fixed, and so many levels", bound);
-        printf("\nAll %d problems with a repetition lie on this line, to the byte.\n", count - 1);
+        int with = 0;
+        for (int at = 0; at < count; at++)
+            with += problems[at].repetitions > 0;
+        printf("\nAll %d problems with a repetition lie on this line, to the byte.\n", with);
         return 0;
     }
     puts("\nNot a line, so nothing is computed from it. What the calls took more than that, where it changes:\n");
     puts(head);
     for (int at = 1; at < count; at++)
-        if (at == 1 || memcmp(more[at], more[at - 1], sizeof more[at]) != 0)
+        if (problems[at].repetitions > 0 && (at == 1 || memcmp(more[at], more[at - 1], sizeof more[at]) != 0))
             row_of(&problems[at], more[at]);
     return 0;
 }

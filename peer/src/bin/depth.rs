@@ -1,7 +1,7 @@
 //! `depth [INPUT...]` prints problems with the repetitions of (A) in their deepest
 //! row, as the model counts them: a ladder with one problem for each number from 0
-//! to 28, and then the problems of the named inputs of the program. `stack.c` reads
-//! it.
+//! to 28, two more without a repetition, and then the problems of the named inputs of
+//! the program. `stack.c` reads it.
 //!
 //! A line has a name (`ladder`, or the input's), and then whole numbers: the
 //! repetitions; the stage and the row, counted from 0, that they are in (0 and 0 if
@@ -62,6 +62,12 @@ fn main() {
     for repetitions in 0..=RUNGS {
         println!("{}", line("ladder", &rung(repetitions)));
     }
+    // No repetition, but steps of (B): a column is brought into range; one is swapped and negated.
+    println!(
+        "{}",
+        line("reduced", &Problem::of_rows(&[&[1, 1], &[0, 1]], &[0, 0]))
+    );
+    println!("{}", line("negated", &Problem::of_rows(&[&[-1, 0]], &[0])));
     for path in std::env::args().skip(1) {
         let text = std::fs::read(&path).expect("an input");
         let input = lines::read(&text).expect("a well-formed input");
