@@ -23,10 +23,10 @@
  * STATE AND THREADS. The calls keep no state. They may be made from several threads at once, so long as no thread writes a buffer that
  * another one is reading or writing.
  *
- * STACK. A call takes less than 0.81 MB of stack, on any input, so that 1 MB is enough: at most 81,920 bytes and 10,912 more for each
- * repetition of document 01's (A) within one row, of which there are at most 66. The deepest problem known takes 50 repetitions, and with
- * it 627,520 bytes; without any a call takes at most 76,432. (The bytes were measured, docs/stack.sh, of the library for x86-64; that there
- * are at most 66 is proved.)
+ * STACK. A call takes less than 0.81 MB of stack, on any input, so that 1 MB is enough: 92,832 bytes where no row takes more than one
+ * repetition of document 01's (A), and 10,912 more for each further one in the deepest row, of which there are at most 66. The deepest
+ * problem known takes 50, and with them 627,520 bytes. (The bytes were measured, docs/stack.sh, of the library for x86-64; that there are
+ * at most 66 is proved.)
  */
 #ifndef GLAUKEMIS_H
 #define GLAUKEMIS_H
