@@ -14,17 +14,16 @@ use Rattle.rules.specs.Bytes.{bytesOf, wholeNumbers}
 use Rattle.rules.specs.Limits.{sizesInRange}
 use Rattle.rules.specs.Problem.{Problem, N, WellFormed}
 use Rattle.rules.specs.Stages.{run, H, U, W}
-use Rattle.rules.specs.Calls.{Check, Verdict, taken, refused, buildVerdict, buildReply, buildOf, built, problemFits}
-use Rattle.rules.specs.Calls.{moduliCheck, entriesCheck, rangeCheck, lentAfter, filled, contentsH, contentsV, contentsW}
-use Rattle.rules.specs.Bench.{problemOf, hasRoom, benchBuildVerdict, benchBuildOf, BenchBuilt}
+use Rattle.rules.specs.Calls.{Check, Verdict, taken, refused, buildVerdict, buildOf, built, builtIn, problemFits}
+use Rattle.rules.specs.Calls.{moduliCheck, entriesCheck, rangeCheck, filled, contentsH, contentsV, contentsW}
+use Rattle.rules.specs.Bench.{problemOf, hasRoom, benchBuildVerdict, benchBuildOf}
 use Rattle.theory.proofs.Sizes.{N-le-24, room-for-H, room-for-V, room-for-W}
 use Rattle.theory.proofs.Accepted.{sizes-passed, build-accepted}
 use Rattle.theory.proofs.Refusals.{build-not-0}
 use Rattle.theory.proofs.Grid.{length-grid}
 use Rattle.scaling.specs.declared.BuildAnswer.{BuildAnswer}
 use Rattle.checks.specs.Checks.{given}
-use Rattle.scaling.specs.Answers as scaling
-use Rattle.bench.specs.Answers.{Builds}
+use Rattle.scaling.specs.BuildPromise.{Builds}
 use Rattle.bench.proofs.Verdicts.{bool-same, verdicts-agree, first-passed}
 use Rattle.bench.proofs.Inputs.{Reads, problem-heard, problem-read}
 use Rattle.bench.proofs.Outputs.{Lent, Written, filled-written}
@@ -33,15 +32,6 @@ use Rattle.bench.proofs.Outputs.{Lent, Written, filled-written}
 abbrev later : Problem → List Check
 later P = moduliCheck P ∷ entriesCheck P ∷ rangeCheck (run P) ∷ []
 
--- what the bytes' build is by its verdict
-abbrev benchBuilt : Problem → (h v w : List ℕ) → Verdict → BenchBuilt
-benchBuilt P h v w x = record {
-  answer = buildReply P x;
-  h = lentAfter x (bytesOf (contentsH P)) h;
-  v = lentAfter x (bytesOf (contentsV P)) v;
-  w = lentAfter x (bytesOf (contentsW P)) w;
-}
-
 -- one call: what was heard of the bytes, what was handed on for the outputs, and what scaling::build answered
 pub record Called (m n : ℕ) (matrix moduli h v w : List ℕ) (a p x y z : List ℤ) (r : BuildAnswer) (x₁ y₁ z₁ : List ℤ) : Type 0 where
   pub reads-matrix : Reads matrix 128 a
@@ -49,7 +39,7 @@ pub record Called (m n : ℕ) (matrix moduli h v w : List ℕ) (a p x y z : List
   pub lent-h : Lent h 192 x
   pub lent-v : Lent v 576 y
   pub lent-w : Lent w 576 z
-  pub builds : scaling.Builds (buildOf (given m n a p) x y z) r x₁ y₁ z₁
+  pub builds : Builds (buildOf (given m n a p) x y z) r x₁ y₁ z₁
 
 -- what a taken call has to write, and that with it written the bytes' build is met
 pub record Taken (m n : ℕ) (matrix moduli h v w : List ℕ) (r : BuildAnswer) (x₁ y₁ z₁ : List ℤ) : Type 0 where
@@ -106,8 +96,8 @@ module _ {m n : ℕ} {matrix moduli h v w : List ℕ} {a p x y z : List ℤ} {r 
   unfolding buildOf benchBuildOf
   refusal d = go (buildVerdict P′ (problemFits P′) outputs′) (K .builds) verdict-same
     where
-      go : (u : Verdict) → scaling.Builds (built P′ x y z u) r x₁ y₁ z₁ → u ≡ benchBuildVerdict m n matrix moduli h v w
-          → Builds (benchBuilt P h v w (benchBuildVerdict m n matrix moduli h v w)) r h v w
+      go : (u : Verdict) → Builds (built P′ x y z u) r x₁ y₁ z₁ → u ≡ benchBuildVerdict m n matrix moduli h v w
+          → Builds (builtIn bytesOf P h v w (benchBuildVerdict m n matrix moduli h v w)) r h v w
       go taken B e = absurd (d (B .number))
       go (refused number place) B e = rw (← e) (record {
         number = B .number;
@@ -124,12 +114,12 @@ module _ {m n : ℕ} {matrix moduli h v w : List ℕ} {a p x y z : List ℤ} {r 
   unfolding buildOf buildVerdict
   verdict-taken d = go (buildVerdict P′ (problemFits P′) outputs′) (K .builds) refl
     where
-      go : (u : Verdict) → scaling.Builds (built P′ x y z u) r x₁ y₁ z₁ → buildVerdict P′ (problemFits P′) outputs′ ≡ u → u ≡ taken
+      go : (u : Verdict) → Builds (built P′ x y z u) r x₁ y₁ z₁ → buildVerdict P′ (problemFits P′) outputs′ ≡ u → u ≡ taken
       go taken B e = refl
       go (refused number place) B e =
           absurd (build-not-0 P′ (problemFits P′) outputs′ number place e (sym (B .number) ∙ d))
 
-  taken-writes : scaling.Builds (built P x y z taken) r x₁ y₁ z₁ → WellFormed P → outputs ≡ true
+  taken-writes : Builds (built P x y z taken) r x₁ y₁ z₁ → WellFormed P → outputs ≡ true
       → benchBuildVerdict m n matrix moduli h v w ≡ taken → Taken m n matrix moduli h v w r x₁ y₁ z₁
   unfolding benchBuildOf contentsH contentsV contentsW
   taken-writes B G o e =
@@ -164,6 +154,6 @@ module _ {m n : ℕ} {matrix moduli h v w : List ℕ} {a p x y z : List ℤ} {r 
       let t = first-passed (sizesInRange m n) (problemFits P′) outputs′ (later P′) e in
       let q = problem-same (t .0) (t .1) in
       let f = subst (λ (Q : Problem). buildVerdict Q (problemFits Q) outputs′ ≡ taken) q e in
-      let B = subst (λ (u : Verdict). scaling.Builds (built P′ x y z u) r x₁ y₁ z₁) e (K .builds) in
-      taken-writes (subst (λ (Q : Problem). scaling.Builds (built Q x y z taken) r x₁ y₁ z₁) q B) (build-accepted P outputs′ f .0)
+      let B = subst (λ (u : Verdict). Builds (built P′ x y z u) r x₁ y₁ z₁) e (K .builds) in
+      taken-writes (subst (λ (Q : Problem). Builds (built Q x y z taken) r x₁ y₁ z₁) q B) (build-accepted P outputs′ f .0)
       (sym outputs-same ∙ t .2) (sym verdict-same ∙ e)

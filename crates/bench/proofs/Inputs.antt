@@ -17,7 +17,7 @@ use Rattle.rules.specs.Calls.{problemFits, formulaFits}
 use Rattle.rules.specs.Bench.{problemOf}
 use Rattle.rules.specs.Bench as bench
 use Rattle.checks.specs.Checks.{given}
-use Rattle.formulas.specs.Answers.{formulaOf}
+use Rattle.formulas.specs.FormulaPromises.{lentFormula}
 use Rattle.theory.proofs.Accepted.{Sizes, lengths-passed, formula-lengths}
 use Rattle.bench.specs.Words.{readable, Decoded}
 use Rattle.bench.proofs.Bytes.{length-longs}
@@ -76,16 +76,16 @@ module _ (m n : ℕ) {matrix moduli : List ℕ} {a p : List ℤ} (A : Reads matr
 
 -- ---- formulas
 module _ (P : Problem) {cs es : List ℕ} {c e : List ℤ} (C : Reads cs 64 c) (E : Reads es 1024 e) (l : P .n ≤ 16) where
-  pub formula-heard : formulaFits P (formulaOf c e) ≡ true
-      → (wholeNumbers cs ≡ true) × (wholeNumbers es ≡ true) × (formulaOf c e ≡ bench.formulaOf cs es)
+  pub formula-heard : formulaFits P (lentFormula c e) ≡ true
+      → (wholeNumbers cs ≡ true) × (wholeNumbers es ≡ true) × (lentFormula c e ≡ bench.formulaOf cs es)
   formula-heard f =
-      let t = formula-lengths P (formulaOf c e) f in
+      let t = formula-lengths P (lentFormula c e) f in
       let x = heard C (t .1) in
       let y = heard E (omega (arith, t .0, mul-le-mul (t .1) l)) in
-      (x .0, y .0, ap₂ formulaOf (x .1) (y .1))
+      (x .0, y .0, ap₂ lentFormula (x .1) (y .1))
 
   pub formula-read : wholeNumbers cs ≡ true → wholeNumbers es ≡ true → formulaFits P (bench.formulaOf cs es) ≡ true
-      → formulaOf c e ≡ bench.formulaOf cs es
+      → lentFormula c e ≡ bench.formulaOf cs es
   formula-read v w f =
       let t = formula-lengths P (bench.formulaOf cs es) f in
-      ap₂ formulaOf (read C v (t .1)) (read E w (omega (arith, t .0, mul-le-mul (t .1) l)))
+      ap₂ lentFormula (read C v (t .1)) (read E w (omega (arith, t .0, mul-le-mul (t .1) l)))

@@ -14,9 +14,9 @@ use Rattle.rules.specs.Limits.{sizesInRange}
 use Rattle.rules.specs.Problem.{Problem, WellFormed}
 use Rattle.rules.specs.Stages.{run}
 use Rattle.rules.specs.Formulas.{Formula, d, terms, term, translated, WellFormedFormula}
-use Rattle.rules.specs.Calls.{Check, Verdict, taken, refused, translateVerdict, translateReply, translateOf, translatedTo, problemFits, formulaFits}
-use Rattle.rules.specs.Calls.{moduliCheck, entriesCheck, exponentsCheck, rangeCheck, termsCheck, lentAfter, filled, translatedExponents}
-use Rattle.rules.specs.Bench.{problemOf, hasRoom, benchTranslateVerdict, benchTranslateOf, BenchTranslated}
+use Rattle.rules.specs.Calls.{Check, Verdict, taken, refused, translateVerdict, translateOf, translatedTo, translatedIn, problemFits, formulaFits}
+use Rattle.rules.specs.Calls.{moduliCheck, entriesCheck, exponentsCheck, rangeCheck, termsCheck, filled, translatedExponents}
+use Rattle.rules.specs.Bench.{problemOf, hasRoom, benchTranslateVerdict, benchTranslateOf}
 use Rattle.rules.specs.Bench as bench
 use Rattle.theory.proofs.Run.{run-right}
 use Rattle.theory.proofs.Sizes.{room-for-exponents}
@@ -25,9 +25,7 @@ use Rattle.theory.proofs.Refusals.{translate-not-0}
 use Rattle.theory.proofs.Grid.{length-grid}
 use Rattle.formulas.specs.declared.TranslateAnswer.{TranslateAnswer}
 use Rattle.checks.specs.Checks.{given}
-use Rattle.formulas.specs.Answers as formulas
-use Rattle.formulas.specs.Answers.{formulaOf}
-use Rattle.bench.specs.Answers.{Translates}
+use Rattle.formulas.specs.FormulaPromises.{Translates, lentFormula}
 use Rattle.bench.proofs.Verdicts.{bool-same, verdicts-agree, first-passed}
 use Rattle.bench.proofs.Inputs.{Reads, problem-heard, problem-read, formula-heard, formula-read}
 use Rattle.bench.proofs.Outputs.{Lent, Written, filled-written}
@@ -35,14 +33,6 @@ use Rattle.bench.proofs.Outputs.{Lent, Written, filled-written}
 -- the checks from 4 on
 abbrev later : Problem → Formula → List Check
 later P f = moduliCheck P ∷ entriesCheck P ∷ exponentsCheck (f .exponents) ∷ rangeCheck (run P) ∷ termsCheck P (run P) f ∷ []
-
--- what the bytes' translation is by its verdict
-abbrev benchTranslated : Problem → Formula → (kept translated : List ℕ) → Verdict → BenchTranslated
-benchTranslated P f kept translated x = record {
-  answer = translateReply P x;
-  coefficients = lentAfter x (bytesOf (f .coefficients)) kept;
-  exponents = lentAfter x (bytesOf (translatedExponents P f)) translated;
-}
 
 -- one call: what was heard of the bytes, with the count of terms, what was handed on for the outputs, and what formulas::translate answered
 pub record Called (m n : ℕ) (matrix moduli cs es kept translated : List ℕ) (a p c e x y : List ℤ) (count : ℕ) (r : TranslateAnswer)
@@ -54,7 +44,7 @@ pub record Called (m n : ℕ) (matrix moduli cs es kept translated : List ℕ) (
   pub counts : count ≡ length c
   pub lent-kept : Lent kept 64 x
   pub lent-translated : Lent translated 1024 y
-  pub translates : formulas.Translates (translateOf (given m n a p) (formulaOf c e) x y) r x₁ y₁
+  pub translates : Translates (translateOf (given m n a p) (lentFormula c e) x y) r x₁ y₁
 
 -- what a taken call has to write, and that with it written the bytes' translation is met
 pub record Taken (m n : ℕ) (matrix moduli cs es kept translated : List ℕ) (count : ℕ) (r : TranslateAnswer) (x₁ y₁ : List ℤ) : Type 0 where
@@ -73,7 +63,7 @@ module _ {m n : ℕ} {matrix moduli cs es kept out : List ℕ} {a p c e x y : Li
   P = problemOf m n matrix moduli
 
   abbrev f′ : Formula
-  f′ = formulaOf c e
+  f′ = lentFormula c e
 
   abbrev f : Formula
   f = bench.formulaOf cs es
@@ -135,8 +125,8 @@ module _ {m n : ℕ} {matrix moduli cs es kept out : List ℕ} {a p c e x y : Li
   unfolding translateOf benchTranslateOf
   refusal h = go (translateVerdict P′ f′ inputs′ outputs′) (K .translates) verdict-same
     where
-      go : (u : Verdict) → formulas.Translates (translatedTo P′ f′ x y u) r x₁ y₁ → u ≡ benchTranslateVerdict m n matrix moduli cs es kept out
-          → Translates (benchTranslated P f kept out (benchTranslateVerdict m n matrix moduli cs es kept out)) r kept out
+      go : (u : Verdict) → Translates (translatedTo P′ f′ x y u) r x₁ y₁ → u ≡ benchTranslateVerdict m n matrix moduli cs es kept out
+          → Translates (translatedIn bytesOf P f kept out (benchTranslateVerdict m n matrix moduli cs es kept out)) r kept out
       go taken B e = absurd (h (B .number))
       go (refused number place) B e = rw (← e) (record { number = B .number; place = B .place; d = B .d; kept = refl; translated = refl })
 
@@ -144,12 +134,12 @@ module _ {m n : ℕ} {matrix moduli cs es kept out : List ℕ} {a p c e x y : Li
   unfolding translateOf translateVerdict
   verdict-taken h = go (translateVerdict P′ f′ inputs′ outputs′) (K .translates) refl
     where
-      go : (u : Verdict) → formulas.Translates (translatedTo P′ f′ x y u) r x₁ y₁ → translateVerdict P′ f′ inputs′ outputs′ ≡ u → u ≡ taken
+      go : (u : Verdict) → Translates (translatedTo P′ f′ x y u) r x₁ y₁ → translateVerdict P′ f′ inputs′ outputs′ ≡ u → u ≡ taken
       go taken B e = refl
       go (refused number place) B e =
           absurd (translate-not-0 P′ inputs′ outputs′ f′ number place e (sym (B .number) ∙ h))
 
-  taken-writes : formulas.Translates (translatedTo P f x y taken) r x₁ y₁ → count ≡ terms f → WellFormed P → WellFormedFormula P f
+  taken-writes : Translates (translatedTo P f x y taken) r x₁ y₁ → count ≡ terms f → WellFormed P → WellFormedFormula P f
       → outputs ≡ true → benchTranslateVerdict m n matrix moduli cs es kept out ≡ taken → Taken m n matrix moduli cs es kept out count r x₁ y₁
   unfolding benchTranslateOf translatedExponents
   taken-writes B k G F o e =
@@ -171,7 +161,7 @@ module _ {m n : ℕ} {matrix moduli cs es kept out : List ℕ} {a p c e x y : Li
       let s = all-heard (t .0) (t .1) .0 in
       let g = ap₂ (λ (Q : Problem) (g : Formula). translateVerdict Q g (problemFits Q && formulaFits Q g) outputs′) (s .0) (s .1) in
       let A = translate-accepted P f outputs′ (sym g ∙ v) in
-      let B = subst (λ (u : Verdict). formulas.Translates (translatedTo P′ f′ x y u) r x₁ y₁) v (K .translates) in
-      let B₁ = subst (λ (Q : Problem). formulas.Translates (translatedTo Q f′ x y taken) r x₁ y₁) (s .0) B in
-      let B₂ = subst (λ (g : Formula). formulas.Translates (translatedTo P g x y taken) r x₁ y₁) (s .1) B₁ in
+      let B = subst (λ (u : Verdict). Translates (translatedTo P′ f′ x y u) r x₁ y₁) v (K .translates) in
+      let B₁ = subst (λ (Q : Problem). Translates (translatedTo Q f′ x y taken) r x₁ y₁) (s .0) B in
+      let B₂ = subst (λ (g : Formula). Translates (translatedTo P g x y taken) r x₁ y₁) (s .1) B₁ in
       taken-writes B₂ (K .counts ∙ ap terms (s .1)) (A .0) (A .1) (sym outputs-same ∙ t .2) (sym verdict-same ∙ v)

@@ -1,7 +1,7 @@
 -- Verdicts whose first three checks are 1, 2 and 3: when two of them agree, and what one that takes says. Assumes nothing.
 use mathlib.Core.Path.{_≡_, refl, sym}
 use mathlib.Core.Bool.{Bool, true, false}
-use mathlib.Core.List.{List, [], _∷_}
+use mathlib.Core.List.{List, _∷_}
 use Rattle.rules.specs.Calls.{Check, taken, verdict, unless, inputsCheck, outputsCheck}
 use Rattle.theory.proofs.Accepted.{all-pass, unless-none}
 

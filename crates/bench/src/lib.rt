@@ -3,7 +3,9 @@
 ghost use Rattle.rules.specs.Bench.{benchBuildOf, benchTranslateOf};
 ghost use Rattle.rules.specs.Gauges.{lentReadings, gaugeOf, gaugeAnswer};
 ghost use Rattle.checks.specs.Checks.{given};
-ghost use Rattle.bench.specs.Answers.{Builds, Translates, Gauges};
+ghost use Rattle.scaling.specs.BuildPromise.{Builds};
+ghost use Rattle.formulas.specs.FormulaPromises.{Translates};
+ghost use Rattle.bench.specs.GaugePromise.{Gauges};
 use checks::ROOM_COEFFICIENTS;
 use checks::ROOM_EXPONENTS;
 use checks::ROOM_H;

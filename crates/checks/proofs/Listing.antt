@@ -14,7 +14,7 @@ use Rattle.whole.proofs.Tests.{Test, pass, fail, lt?}
 use Rattle.rules.specs.Limits.{isZero}
 use Rattle.rules.specs.Problem.{modulusRowsFrom}
 use Rattle.checks.specs.declared.ModulusRows.{ModulusRows}
-use Rattle.checks.specs.Moduli.{problemOf, Lists, ListsFirst8, With}
+use Rattle.checks.specs.Moduli.{lentProblem, Lists, ListsFirst8, With}
 
 -- ---- one modulus more at the end
 rows-passed : (k : ℕ) (ps : List ℤ) (p : ℤ) → isZero p ≡ true → modulusRowsFrom k (ps ++ p ∷ []) ≡ modulusRowsFrom k ps
@@ -108,7 +108,7 @@ module _ {moduli : List ℤ} {i : ℕ} {q : ModulusRows} (l : Listed moduli i q)
             rw y (getD-set-same (q .rows) (q .s) i 0 (omega (arith, l .long)) ∙ rw (l .count) (sym (getD-append-seam (rowsTo moduli i) i [] 0)))
 
 -- ---- a problem has at most eight rows
-pub lists-all : {moduli : List ℤ} {q : ModulusRows} → ListsFirst8 moduli q → length moduli ≤ 8 → (n : ℕ) (matrix : List ℤ) → Lists (problemOf n matrix moduli) q
+pub lists-all : {moduli : List ℤ} {q : ModulusRows} → ListsFirst8 moduli q → length moduli ≤ 8 → (n : ℕ) (matrix : List ℤ) → Lists (lentProblem n matrix moduli) q
 lists-all {moduli} {q} l h n matrix =
     let x : modulusRowsFrom 0 (take 8 moduli) ≡ modulusRowsFrom 0 moduli = ap (modulusRowsFrom 0) (take-all 8 moduli h) in
     record { count = l .count ∙ ap length x; few = l .few; rows = λ c b. l .rows c b ∙ ap (λ (r : List ℕ). getD r c 0) x }

@@ -1,20 +1,19 @@
 -- What an answer of the code says of a verdict, and what holds once checks 1 to 5, and 6, are passed.
-use mathlib.Core.Path.{_≡_, refl, sym, _∙_, ap, subst}
+use mathlib.Core.Path.{_≡_, refl, sym, ap, subst}
 use mathlib.Core.Logic.{_≢_}
 use mathlib.Core.Bool.{Bool, true, _&&_}
 use mathlib.Core.List.{List, [], _∷_, _++_}
-use Prim.Native.Nat.{ℕ, _≤_}
-use native.Mathlib.Omega.{arith}
+use Prim.Native.Nat.{ℕ}
 use lib.ListN.{length}
 use lib.IntN.{ℤ}
 use Rattle.whole.proofs.Tests.{and-both}
 use Rattle.rules.specs.Limits.{sizesInRange}
-use Rattle.rules.specs.Search.{Found, none, found}
-use Rattle.rules.specs.Problem.{Problem, WellFormed}
-use Rattle.rules.specs.Calls.{Check, Verdict, taken, refused, verdict, problemFits, exponentsCheck, checksTo5, checksTo6}
+use Rattle.rules.specs.Search.{none, found}
+use Rattle.rules.specs.Problem.{WellFormed}
+use Rattle.rules.specs.Calls.{Check, Verdict, taken, refused, verdict, problemFits, exponentsCheck, checksTo5}
 use Rattle.theory.proofs.Refusals.{goes-on, stays}
 use Rattle.theory.proofs.Accepted.{all-pass, unless-none, lengths-passed, problem-accepted}
-use Rattle.checks.specs.Moduli.{problemOf}
+use Rattle.checks.specs.Moduli.{lentProblem}
 use Rattle.checks.specs.declared.Refusal.{Refusal}
 use Rattle.checks.specs.Checks.{Says, takes, refuses, given, termsFit, TellsTo5, TellsTo6}
 
@@ -37,8 +36,8 @@ says-next c cs e x = rw e x
 
 -- ---- 1 to 5, of a problem as it was given
 pub record Passed (m n : ℕ) (matrix moduli : List ℤ) (more outputs : Bool) : Type 0 where
-  pub wellFormed : WellFormed (problemOf n matrix moduli)
-  pub same : given m n matrix moduli ≡ problemOf n matrix moduli
+  pub wellFormed : WellFormed (lentProblem n matrix moduli)
+  pub same : given m n matrix moduli ≡ lentProblem n matrix moduli
   pub also : more ≡ true
   pub room : outputs ≡ true
 
@@ -52,7 +51,7 @@ five-passed m n matrix moduli more outputs rest e =
     let P = given m n matrix moduli in
     let a = all-pass (to5 m n matrix moduli more outputs ++ rest) e in
     let inputs = and-both (problemFits P) more (unless-none (problemFits P && more) (a .1 .0)) in
-    let same : P ≡ problemOf n matrix moduli = ap (λ k. given k n matrix moduli) (sym (lengths-passed P (inputs .0) .1)) in
+    let same : P ≡ lentProblem n matrix moduli = ap (λ k. given k n matrix moduli) (sym (lengths-passed P (inputs .0) .1)) in
     record {
       wellFormed = subst WellFormed same
           (problem-accepted P (unless-none (sizesInRange m n) (a .0)) (inputs .0) (a .1 .1 .1 .0) (a .1 .1 .1 .1 .0));

@@ -8,8 +8,8 @@ use Rattle.rules.specs.Problem.{Problem, modulusRowsFrom, modulusRows, s}
 use Rattle.checks.specs.declared.ModulusRows.{ModulusRows}
 
 -- there is a modulus for each row, so that the rows need not be counted apart
-abbrev pub problemOf : (n : ℕ) (matrix moduli : List ℤ) → Problem
-problemOf n matrix moduli = record { m = length moduli; n = n; matrix = matrix; moduli = moduli }
+abbrev pub lentProblem : (n : ℕ) (matrix moduli : List ℤ) → Problem
+lentProblem n matrix moduli = record { m = length moduli; n = n; matrix = matrix; moduli = moduli }
 
 -- q lists the rows with a modulus
 pub record Lists (P : Problem) (q : ModulusRows) : Type 0 where

@@ -16,9 +16,9 @@ use Rattle.rules.specs.Limits.{roomH, roomV, roomW}
 use Rattle.rules.specs.Problem.{Problem, WellFormed, N}
 use Rattle.rules.specs.Stages.{run, H, U, W}
 use Rattle.rules.specs.Calls.{Check, Verdict, taken, refused, verdict, inputsCheck, outputsCheck, buildVerdict, problemFits}
-use Rattle.rules.specs.Calls.{buildReply, lentAfter, contentsH, contentsV, contentsW, buildOf, built}
+use Rattle.rules.specs.Calls.{contentsH, contentsV, contentsW, buildOf, built, builtIn}
 use Rattle.rules.specs.Bytes.{bytesOf, wholeNumbers, numbersIn, numbersOf}
-use Rattle.rules.specs.Bench.{problemOf, hasRoom, benchBuildVerdict, benchBuildOf, BenchBuilt}
+use Rattle.rules.specs.Bench.{problemOf, hasRoom, benchBuildVerdict, benchBuildOf}
 use Rattle.whole.proofs.Tests.{and-both}
 use Rattle.theory.proofs.Grid.{length-grid}
 use Rattle.theory.proofs.Accepted.{AllPass}
@@ -27,16 +27,14 @@ use Rattle.theory.proofs.Run.{run-steps}
 use Rattle.theory.proofs.Sequence.{written}
 use Rattle.theory.proofs.Flag.{SomeBeyond}
 use Rattle.scaling.specs.declared.BuildAnswer.{BuildAnswer}
-use Rattle.scaling.specs.Answers as scaling
-use Rattle.scaling.specs.Answers.{RoomToBuild}
-use Rattle.bench.specs.Answers.{Builds}
+use Rattle.scaling.specs.BuildPromise.{Builds, RoomToBuild}
 use Rattle.bench.proofs.Bytes.{length-longs}
 use Rattle.demands.proofs.Order.{taken-exactly, refused-exactly, buildChecks, build-not-0}
 use Rattle.demands.proofs.Limits.{both, and-exactly, at-least, problem-fits-exactly}
 use Rattle.demands.proofs.Table.{Row, NotAt0, row-at, ProblemLengths}
 use Rattle.demands.proofs.Refusals.{Ordered, ordered, BuildRefused, checksOfBuild}
 use Rattle.demands.proofs.Buffers.{KeepsRest}
-use Rattle.demands.proofs.Answers.{Answered, width, all-pass-exactly, build-accepted-exactly, build-answered, range-exactly, taken-or-range}
+use Rattle.demands.proofs.NormalForms.{Answered, width, all-pass-exactly, build-accepted-exactly, build-answered, range-exactly, taken-or-range}
 use Rattle.demands.proofs.Bytes.{numbers-filled, bytes-keep, H-fits, V-fits, W-fits}
 
 -- ---- glaukemis_build: demand 1
@@ -105,21 +103,12 @@ row-3-c-build h v w = row-at 0 3 (outputsOfCBuild h v w) (OutputsInBytes h v w) 
     back : OutputsInBytes h v w → outputsOfCBuild h v w ≡ true
     back O = both (both (room-exactly 192 h .1 (O .h-room)) (room-exactly 576 v .1 (O .v-room))) (room-exactly 576 w .1 (O .w-room))
 
--- what the call is by its verdict
-abbrev benchBuilt : Problem → (h v w : List ℕ) → Verdict → BenchBuilt
-benchBuilt P h v w x = record {
-  answer = buildReply P x;
-  h = lentAfter x (bytesOf (contentsH P)) h;
-  v = lentAfter x (bytesOf (contentsV P)) v;
-  w = lentAfter x (bytesOf (contentsW P)) w;
-}
-
 module _ (m n : ℕ) (matrix moduli h v w : List ℕ) (r : BuildAnswer) (h₁ v₁ w₁ : List ℕ) where
   abbrev cBuildChecks : List Check
   cBuildChecks = checksOfCBuild m n matrix moduli h v w
 
   by-verdict : Builds (benchBuildOf m n matrix moduli h v w) r h₁ v₁ w₁
-      → Builds (benchBuilt (problemOf m n matrix moduli) h v w (verdict cBuildChecks)) r h₁ v₁ w₁
+      → Builds (builtIn bytesOf (problemOf m n matrix moduli) h v w (verdict cBuildChecks)) r h₁ v₁ w₁
   unfolding benchBuildOf benchBuildVerdict buildVerdict
   by-verdict promise = promise
 
@@ -130,7 +119,7 @@ module _ (m n : ℕ) (matrix moduli h v w : List ℕ) (r : BuildAnswer) (h₁ v�
       (build-not-0 (problemOf m n matrix moduli) (inputsOfCBuild m n matrix moduli) (outputsOfCBuild h v w))
       (go (verdict cBuildChecks) refl (by-verdict promise))
     where
-      go : (x : Verdict) → verdict cBuildChecks ≡ x → Builds (benchBuilt (problemOf m n matrix moduli) h v w x) r h₁ v₁ w₁
+      go : (x : Verdict) → verdict cBuildChecks ≡ x → Builds (builtIn bytesOf (problemOf m n matrix moduli) h v w x) r h₁ v₁ w₁
           → (AllPass cBuildChecks × (r .number ≡ 0) × (r .place ≡ 0)) ⊎ BuildRefused cBuildChecks h v w r h₁ v₁ w₁
       go taken e B = inl (taken-exactly cBuildChecks .0 e, B .number, B .place)
       go (refused number place) e B = inr (record {
@@ -178,17 +167,17 @@ module _ (m n : ℕ) (matrix moduli h v w : List ℕ) (r : BuildAnswer) (h₁ v�
 
   -- a call whose byte lengths are multiples of four is the call `build` on the numbers that the bytes are
   pub c-build-is-build : WholeToBuild matrix moduli h v w
-      → scaling.Builds (buildOf (problemOf m n matrix moduli) (numbersOf h) (numbersOf v) (numbersOf w)) r (numbersOf h₁) (numbersOf v₁) (numbersOf w₁)
+      → Builds (buildOf (problemOf m n matrix moduli) (numbersOf h) (numbersOf v) (numbersOf w)) r (numbersOf h₁) (numbersOf v₁) (numbersOf w₁)
   unfolding buildOf buildVerdict
   c-build-is-build F =
       go (verdict checks) refl
-      (subst (λ (x : Verdict). Builds (benchBuilt P h v w x) r h₁ v₁ w₁) (verdict-same F) (by-verdict m n matrix moduli h v w r h₁ v₁ w₁ promise))
+      (subst (λ (x : Verdict). Builds (builtIn bytesOf P h v w x) r h₁ v₁ w₁) (verdict-same F) (by-verdict m n matrix moduli h v w r h₁ v₁ w₁ promise))
     where
       checks : List Check
       checks = checksOfBuild P (numbersOf h) (numbersOf v) (numbersOf w)
 
-      go : (x : Verdict) → verdict checks ≡ x → Builds (benchBuilt P h v w x) r h₁ v₁ w₁
-          → scaling.Builds (built P (numbersOf h) (numbersOf v) (numbersOf w) x) r (numbersOf h₁) (numbersOf v₁) (numbersOf w₁)
+      go : (x : Verdict) → verdict checks ≡ x → Builds (builtIn bytesOf P h v w x) r h₁ v₁ w₁
+          → Builds (built P (numbersOf h) (numbersOf v) (numbersOf w) x) r (numbersOf h₁) (numbersOf v₁) (numbersOf w₁)
       go taken e B =
           let A = all-pass-exactly P (numbersOf h) (numbersOf v) (numbersOf w) .0 (taken-exactly checks .0 e) in
           let G = A .0 .well-formed in
@@ -243,7 +232,7 @@ module _ (m n : ℕ) (matrix moduli h v w : List ℕ) (r : BuildAnswer) (h₁ v�
   unfolding contentsH contentsV contentsW
   c-build-rest e =
       let a = c-build-ordered m n matrix moduli h v w r h₁ v₁ w₁ promise .accepts-exactly .0 e in
-      let B = subst (λ (x : Verdict). Builds (benchBuilt P h v w x) r h₁ v₁ w₁) (taken-exactly (checksOfCBuild m n matrix moduli h v w) .1 a)
+      let B = subst (λ (x : Verdict). Builds (builtIn bytesOf P h v w x) r h₁ v₁ w₁) (taken-exactly (checksOfCBuild m n matrix moduli h v w) .1 a)
       (by-verdict m n matrix moduli h v w r h₁ v₁ w₁ promise) in
       let A = build-accepted-exactly P (numbersOf h) (numbersOf v) (numbersOf w) r (numbersOf h₁) (numbersOf v₁) (numbersOf w₁)
       (c-build-is-build (c-build-whole e)) .0 e in

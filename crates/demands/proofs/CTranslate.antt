@@ -19,9 +19,9 @@ use Rattle.rules.specs.Problem.{Problem}
 use Rattle.rules.specs.Stages.{run}
 use Rattle.rules.specs.Formulas.{Formula, terms, term, d, translated}
 use Rattle.rules.specs.Calls.{Check, Verdict, taken, refused, verdict, inputsCheck, outputsCheck, translateVerdict, problemFits, formulaFits}
-use Rattle.rules.specs.Calls.{translateReply, lentAfter, buildOf, translateOf, translatedTo, translatedExponents}
+use Rattle.rules.specs.Calls.{buildOf, translateOf, translatedTo, translatedIn, translatedExponents}
 use Rattle.rules.specs.Bytes.{bytesOf, wholeNumbers, numbersIn, numbersOf}
-use Rattle.rules.specs.Bench.{problemOf, formulaOf, hasRoom, benchBuildOf, benchTranslateVerdict, benchTranslateOf, BenchTranslated}
+use Rattle.rules.specs.Bench.{problemOf, formulaOf, hasRoom, benchBuildOf, benchTranslateVerdict, benchTranslateOf}
 use Rattle.whole.proofs.Tests.{and-both}
 use Rattle.theory.proofs.Grid.{length-grid}
 use Rattle.theory.proofs.Accepted.{AllPass}
@@ -29,9 +29,8 @@ use Rattle.theory.proofs.Run.{run-right}
 use Rattle.theory.proofs.Sizes.{room-for-exponents}
 use Rattle.scaling.specs.declared.BuildAnswer.{BuildAnswer}
 use Rattle.formulas.specs.declared.TranslateAnswer.{TranslateAnswer}
-use Rattle.scaling.specs.Answers as scaling
-use Rattle.formulas.specs.Answers as formulas
-use Rattle.bench.specs.Answers.{Builds, Translates}
+use Rattle.scaling.specs.BuildPromise.{Builds}
+use Rattle.formulas.specs.FormulaPromises.{Translates}
 use Rattle.bench.proofs.Bytes.{length-longs}
 use Rattle.demands.proofs.Order.{taken-exactly, refused-exactly, TermDecides, translateChecks, translate-not-0}
 use Rattle.demands.proofs.Limits.{both}
@@ -115,14 +114,6 @@ row-3-c-translate kept out = row-at 0 3 (outputsOfCTranslate kept out) (OutputsI
   λ O. both (room-exactly 64 kept .1 (O .kept-room)) (room-exactly 1024 out .1 (O .out-room)),
 )
 
--- what the call is by its verdict
-abbrev benchTranslated : Problem → Formula → (kept out : List ℕ) → Verdict → BenchTranslated
-benchTranslated P f kept out x = record {
-  answer = translateReply P x;
-  coefficients = lentAfter x (bytesOf (f .coefficients)) kept;
-  exponents = lentAfter x (bytesOf (translatedExponents P f)) out;
-}
-
 -- every byte length is a multiple of four
 pub record WholeToTranslate (matrix moduli cs es kept out : List ℕ) : Type 0 where
   pub matrix-whole : Whole matrix
@@ -149,7 +140,7 @@ module _ (m n : ℕ) (matrix moduli cs es kept out : List ℕ) (a : TranslateAns
   abbrev checks : List Check
   checks = checksOfCTranslate m n matrix moduli cs es kept out
 
-  by-verdict : Translates (benchTranslated P f kept out (verdict checks)) a kept₁ out₁
+  by-verdict : Translates (translatedIn bytesOf P f kept out (verdict checks)) a kept₁ out₁
   unfolding benchTranslateOf benchTranslateVerdict translateVerdict
   by-verdict = promise
 
@@ -159,7 +150,7 @@ module _ (m n : ℕ) (matrix moduli cs es kept out : List ℕ) (a : TranslateAns
       ordered checks (a .number) (a .place) (TranslateRefused checks kept out a kept₁ out₁) (λ R. R .decided)
       (translate-not-0 P f (inputsOfCTranslate m n matrix moduli cs es) (outputsOfCTranslate kept out)) (go (verdict checks) refl by-verdict)
     where
-      go : (x : Verdict) → verdict checks ≡ x → Translates (benchTranslated P f kept out x) a kept₁ out₁
+      go : (x : Verdict) → verdict checks ≡ x → Translates (translatedIn bytesOf P f kept out x) a kept₁ out₁
           → (AllPass checks × (a .number ≡ 0) × (a .place ≡ 0)) ⊎ TranslateRefused checks kept out a kept₁ out₁
       go taken e B = inl (taken-exactly checks .0 e, B .number, B .place)
       go (refused number place) e B = inr (record {
@@ -184,16 +175,16 @@ module _ (m n : ℕ) (matrix moduli cs es kept out : List ℕ) (a : TranslateAns
 
   -- a call whose byte lengths are multiples of four is the call `translate` on the numbers that the bytes are
   pub c-translate-is-translate : WholeToTranslate matrix moduli cs es kept out
-      → formulas.Translates (translateOf (problemOf m n matrix moduli) (formulaOf cs es) (numbersOf kept) (numbersOf out)) a (numbersOf kept₁) (numbersOf out₁)
+      → Translates (translateOf (problemOf m n matrix moduli) (formulaOf cs es) (numbersOf kept) (numbersOf out)) a (numbersOf kept₁) (numbersOf out₁)
   unfolding translateOf translateVerdict
   c-translate-is-translate F =
-      go (verdict onNumbers) refl (subst (λ (x : Verdict). Translates (benchTranslated P f kept out x) a kept₁ out₁) (verdict-same F) by-verdict)
+      go (verdict onNumbers) refl (subst (λ (x : Verdict). Translates (translatedIn bytesOf P f kept out x) a kept₁ out₁) (verdict-same F) by-verdict)
     where
       onNumbers : List Check
       onNumbers = checksOfTranslate P f (numbersOf kept) (numbersOf out)
 
-      go : (x : Verdict) → verdict onNumbers ≡ x → Translates (benchTranslated P f kept out x) a kept₁ out₁
-          → formulas.Translates (translatedTo P f (numbersOf kept) (numbersOf out) x) a (numbersOf kept₁) (numbersOf out₁)
+      go : (x : Verdict) → verdict onNumbers ≡ x → Translates (translatedIn bytesOf P f kept out x) a kept₁ out₁
+          → Translates (translatedTo P f (numbersOf kept) (numbersOf out) x) a (numbersOf kept₁) (numbersOf out₁)
       go taken e B =
           let A = all-pass-exactly P f (numbersOf kept) (numbersOf out) .0 (taken-exactly onNumbers .0 e) in
           let L = (A .0 .accepted .well-formed) in
@@ -254,7 +245,7 @@ module _ (m n : ℕ) (matrix moduli cs es kept out : List ℕ) (a : TranslateAns
       → KeepsRest (4 * terms (formulaOf cs es)) kept kept₁ × KeepsRest (4 * (terms (formulaOf cs es) * a .d)) out out₁
   unfolding translatedExponents
   c-translate-rest e =
-      let B = subst (λ (x : Verdict). Translates (benchTranslated P f kept out x) a kept₁ out₁)
+      let B = subst (λ (x : Verdict). Translates (translatedIn bytesOf P f kept out x) a kept₁ out₁)
       (taken-exactly checks .1 (c-translate-ordered .accepts-exactly .0 e)) by-verdict in
       let F = c-formula-translated e in
       let L = (F .asked .accepted .well-formed) in
@@ -268,11 +259,11 @@ module _ (m n : ℕ) (matrix moduli cs es kept out : List ℕ) (a : TranslateAns
   -- the same problem built, in the bytes h, v, w
   module _ (h v w : List ℕ) (r : BuildAnswer) (h₁ v₁ w₁ : List ℕ) (builds : Builds (benchBuildOf m n matrix moduli h v w) r h₁ v₁ w₁)
       (built : r .number ≡ 0) (done : a .number ≡ 0) where
-    built-numbers : scaling.Builds (buildOf P (numbersOf h) (numbersOf v) (numbersOf w)) r (numbersOf h₁) (numbersOf v₁) (numbersOf w₁)
+    built-numbers : Builds (buildOf P (numbersOf h) (numbersOf v) (numbersOf w)) r (numbersOf h₁) (numbersOf v₁) (numbersOf w₁)
     built-numbers =
         c-build-is-build m n matrix moduli h v w r h₁ v₁ w₁ builds (c-build-whole m n matrix moduli h v w r h₁ v₁ w₁ builds built)
 
-    translated-numbers : formulas.Translates (translateOf P f (numbersOf kept) (numbersOf out)) a (numbersOf kept₁) (numbersOf out₁)
+    translated-numbers : Translates (translateOf P f (numbersOf kept) (numbersOf out)) a (numbersOf kept₁) (numbersOf out₁)
     translated-numbers = c-translate-is-translate (c-translate-whole done)
 
     -- "Put each group's exponents back where the group stands, and the first formula returns, term for term"

@@ -5,7 +5,7 @@
 --
 -- `translates` is what translate's `ensures` says and `builds` what build's says; P is the problem and f the formula as they were given; kept and out
 -- are the lent outputs before the translation, kept₁ and out₁ after it.
--- Accepted is of Answers, Free and translated (document 01's translated exponents) of rules/specs/Formulas.
+-- Accepted is of NormalForms, Free and translated (document 01's translated exponents) of rules/specs/Formulas.
 use mathlib.Core.Path.{_≡_, refl, sym, _∙_, ap, ap₂, subst}
 use mathlib.Core.Logic.{_≢_, _↔_}
 use mathlib.Core.Bool.{_&&_}
@@ -33,14 +33,14 @@ use Rattle.theory.proofs.Run.{run-right}
 use Rattle.theory.proofs.Translation.{translated-back, translated-only, free-of-groups, ofGroups}
 use Rattle.scaling.specs.declared.BuildAnswer.{BuildAnswer}
 use Rattle.formulas.specs.declared.TranslateAnswer.{TranslateAnswer}
-use Rattle.scaling.specs.Answers.{Builds}
-use Rattle.formulas.specs.Answers.{Translates, RoomToTranslate}
+use Rattle.scaling.specs.BuildPromise.{Builds}
+use Rattle.formulas.specs.FormulaPromises.{Translates, RoomToTranslate}
 use Rattle.demands.proofs.Order.{all-pass-append, taken-exactly, TermDecides, term-decides-exactly, all-terms-exactly}
 use Rattle.demands.proofs.Limits.{and-exactly, five-exactly, formula-fits-exactly, flag-exactly, translate-room-exactly}
 use Rattle.demands.proofs.Table.{row-6}
 use Rattle.demands.proofs.Refusals.{Ordered, TranslateRefused, checksOfTranslate, translate-ordered}
 use Rattle.demands.proofs.Buffers.{KeepsRest, filled-keeps}
-use Rattle.demands.proofs.Answers.{Accepted, width, build-answered}
+use Rattle.demands.proofs.NormalForms.{Accepted, width, build-answered}
 
 -- ---- "every accepted problem and every formula of at most 64 terms with exponents from -10,000 to 10,000, lent room enough"
 pub record Asked (P : Problem) (f : Formula) (kept out : List ℤ) : Type 0 where

@@ -28,17 +28,17 @@ use Rattle.theory.proofs.Powers.{Held}
 use Rattle.theory.proofs.Operations.{runningExponents, value-same}
 use Rattle.theory.proofs.Exactness.{group-exact, stays-in-range, between-held}
 use Rattle.scaling.specs.declared.BuildAnswer.{BuildAnswer}
-use Rattle.scaling.specs.Answers.{Builds}
+use Rattle.scaling.specs.BuildPromise.{Builds}
 use Rattle.gauges.specs.declared.Gauged as declared
 use Rattle.gauges.specs.declared.Gauged.the-variants.{Value, Refused}
-use Rattle.gauges.specs.Held.{told}
+use Rattle.gauges.specs.Gauging.{told}
 use Rattle.bench.specs.declared.GaugeAnswer as bench
-use Rattle.bench.specs.Answers.{Gauges}
+use Rattle.bench.specs.GaugePromise.{Gauges}
 use Rattle.demands.proofs.Order.{DecidedBy, FirstAt, found-exactly, none-exactly, taken-exactly, refused-exactly, numbers}
 use Rattle.demands.proofs.Limits.{and-exactly, power-exactly, problem-fits-exactly, well-formed-exactly, unless-exactly, flag-exactly}
 use Rattle.demands.proofs.Table.{Row, NotAt, row-at, ProblemLengths}
 use Rattle.demands.proofs.Refusals.{Ordered, ordered}
-use Rattle.demands.proofs.Answers.{Accepted}
+use Rattle.demands.proofs.NormalForms.{Accepted}
 use Rattle.demands.proofs.Formulas.{groupIn, groups-are, group-is}
 
 -- ---- what the group is worked out from

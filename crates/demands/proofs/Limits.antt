@@ -21,8 +21,8 @@ use Rattle.rules.specs.Calls.{unless, firstOut, rangeCheck, problemFits, formul
 use Rattle.whole.proofs.Tests.{and-both}
 use Rattle.theory.proofs.Limits.{between, small}
 use Rattle.theory.proofs.Accepted.{AllPass, unless-none, none-out}
-use Rattle.scaling.specs.Answers.{RoomToBuild}
-use Rattle.formulas.specs.Answers.{RoomToTranslate}
+use Rattle.scaling.specs.BuildPromise.{RoomToBuild}
+use Rattle.formulas.specs.FormulaPromises.{RoomToTranslate}
 use Rattle.theory.proofs.Accepted.{Sizes, sizes-passed, lengths-passed}
 use Rattle.demands.proofs.Order.{none-out-exactly}
 

@@ -10,7 +10,6 @@ use lib.ListN.{getD}
 use lib.Seq.{ext-getD}
 use lib.IntN.{ℤ}
 use Rattle.rules.specs.Calls.{Verdict, Built, Weighed, Translated}
-use Rattle.rules.specs.Bench.{BenchBuilt, BenchTranslated}
 use Rattle.checks.specs.declared.Refusal.{Refusal}
 use Rattle.checks.specs.declared.ModulusRows.{ModulusRows}
 use Rattle.checks.specs.Checks.{Says, takes, refuses, TellsTo5, TellsTo6}
@@ -18,9 +17,8 @@ use Rattle.checks.specs.Moduli.{ListsFirst8}
 use Rattle.scaling.specs.declared.BuildAnswer.{BuildAnswer}
 use Rattle.formulas.specs.declared.WeighAnswer.{WeighAnswer}
 use Rattle.formulas.specs.declared.TranslateAnswer.{TranslateAnswer}
-use Rattle.scaling.specs.Answers.{Builds}
-use Rattle.formulas.specs.Answers.{Weighs, Translates}
-use Rattle.bench.specs.Answers as bench
+use Rattle.scaling.specs.BuildPromise.{Builds}
+use Rattle.formulas.specs.FormulaPromises.{Weighs, Translates}
 use Rattle.frames.specs.declared.Text.{Text}
 use Rattle.frames.specs.Output.{Shows}
 
@@ -68,8 +66,8 @@ one-listing {moduli} {q} {q′} B D = λ i. record { rows = rows-same i; s = bot
     rows-same : q .rows ≡ q′ .rows
     rows-same = ext-getD 0 (q .rows) (q′ .rows) (both-are (B .long) (D .long)) (λ c _. at c (decLt c (q .s)))
 
--- ---- the calls on numbers
-pub one-build : {b : Built} {r r′ : BuildAnswer} {h v w h′ v′ w′ : List ℤ} → Builds b r h v w → Builds b r′ h′ v′ w′
+-- ---- the calls, on numbers (A is ℤ) and on bytes (A is ℕ)
+pub one-build : {A : Type 0} {b : Built A} {r r′ : BuildAnswer} {h v w h′ v′ w′ : List A} → Builds b r h v w → Builds b r′ h′ v′ w′
     → (r ≡ r′) × (h ≡ h′) × (v ≡ v′) × (w ≡ w′)
 one-build B D = (
   same-build (both-are (B .number) (D .number)) (both-are (B .place) (D .place)) (both-are (B .rank) (D .rank))
@@ -82,28 +80,10 @@ one-build B D = (
 pub one-weigh : {b : Weighed} {r r′ : WeighAnswer} {out out′ : List ℤ} → Weighs b r out → Weighs b r′ out′ → (r ≡ r′) × (out ≡ out′)
 one-weigh B D = (same-weigh (both-are (B .number) (D .number)) (both-are (B .place) (D .place)), both-are (B .weights) (D .weights))
 
-pub one-translate : {b : Translated} {r r′ : TranslateAnswer} {kept out kept′ out′ : List ℤ} → Translates b r kept out → Translates b r′ kept′ out′
+pub one-translate : {A : Type 0} {b : Translated A} {r r′ : TranslateAnswer} {kept out kept′ out′ : List A} → Translates b r kept out
+    → Translates b r′ kept′ out′
     → (r ≡ r′) × (kept ≡ kept′) × (out ≡ out′)
 one-translate B D = (
-  same-translate (both-are (B .number) (D .number)) (both-are (B .place) (D .place)) (both-are (B .d) (D .d)),
-  both-are (B .kept) (D .kept),
-  both-are (B .translated) (D .translated),
-)
-
--- ---- the C calls
-pub one-c-build : {b : BenchBuilt} {r r′ : BuildAnswer} {h v w h′ v′ w′ : List ℕ} → bench.Builds b r h v w → bench.Builds b r′ h′ v′ w′
-    → (r ≡ r′) × (h ≡ h′) × (v ≡ v′) × (w ≡ w′)
-one-c-build B D = (
-  same-build (both-are (B .number) (D .number)) (both-are (B .place) (D .place)) (both-are (B .rank) (D .rank))
-      (both-are (B .moduli) (D .moduli)) (both-are (B .steps) (D .steps)),
-  both-are (B .h) (D .h),
-  both-are (B .v) (D .v),
-  both-are (B .w) (D .w),
-)
-
-pub one-c-translate : {b : BenchTranslated} {r r′ : TranslateAnswer} {kept out kept′ out′ : List ℕ} → bench.Translates b r kept out
-    → bench.Translates b r′ kept′ out′ → (r ≡ r′) × (kept ≡ kept′) × (out ≡ out′)
-one-c-translate B D = (
   same-translate (both-are (B .number) (D .number)) (both-are (B .place) (D .place)) (both-are (B .d) (D .d)),
   both-are (B .kept) (D .kept),
   both-are (B .translated) (D .translated),

@@ -30,7 +30,7 @@ use Rattle.theory.proofs.Unique.{Alike, normal-unique}
 use Rattle.theory.proofs.Translation.{translated-back, translated-only, ofGroups}
 use Rattle.frames.specs.declared.Text.{Text}
 use Rattle.frames.specs.Output.{Shows}
-use Rattle.demands.proofs.Answers.{Accepted}
+use Rattle.demands.proofs.NormalForms.{Accepted}
 use Rattle.demands.proofs.Formulas.{back-same}
 use Rattle.demands.proofs.InputLines.{lineAt, mSaid, nSaid, WellFormedInput, problemSaid, formulaSaid}
 use Rattle.demands.proofs.InputSays.{terms-said, coefficient-said, term-said}

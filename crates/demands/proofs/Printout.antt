@@ -17,13 +17,13 @@ use Rattle.rules.specs.Formulas.{Formula, WellFormedFormula, terms, term}
 use Rattle.rules.specs.Calls.{Verdict, taken, refused}
 use Rattle.rules.specs.Frames.{TextLine, linesOf, frameOf, termCoefficient, program, printed, answered}
 use Rattle.theory.proofs.Accepted.{AllPass}
-use Rattle.formulas.specs.Answers.{RoomToTranslate}
+use Rattle.formulas.specs.FormulaPromises.{RoomToTranslate}
 use Rattle.frames.specs.declared.Text.{Text}
 use Rattle.frames.specs.Output.{Shows}
 use Rattle.demands.proofs.Order.{DecidedBy, translate-not-0}
 use Rattle.demands.proofs.Refusals.{Ordered, ordered}
 use Rattle.demands.proofs.Bytes.{AllFit, long-fits}
-use Rattle.demands.proofs.Answers.{Accepted}
+use Rattle.demands.proofs.NormalForms.{Accepted}
 use Rattle.demands.proofs.Formulas.{Translatable, all-pass-exactly}
 use Rattle.demands.proofs.InputLines.{lineAt, mSaid, GoodLine, BadLine, missing, not-of-form, good-not-bad, FirstBadLine, SizesRefused, WellFormedInput, problemSaid, formulaSaid, bad-not-good, sizes-not-good}
 use Rattle.demands.proofs.InputSays.{coefficient-said}

@@ -22,7 +22,7 @@ use Rattle.rules.specs.Calls.{Check, Verdict, taken, refused, verdict, translat
 use Rattle.rules.specs.Calls.{sizesCheck, moduliCheck, entriesCheck, exponentsCheck, rangeCheck, termsCheck}
 use Rattle.rules.specs.Frames.{TextLine, linesOf, Reading, answered, answerTo, program}
 use Rattle.theory.proofs.Accepted.{AllPass}
-use Rattle.formulas.specs.Answers.{RoomToTranslate}
+use Rattle.formulas.specs.FormulaPromises.{RoomToTranslate}
 use Rattle.frames.specs.declared.Text.{Text}
 use Rattle.frames.specs.Output.{Shows}
 use Rattle.demands.proofs.Order.{DecidedBy, EachFault, decider-has, one-refusal, not-taken-and-refused, taken-exactly, refused-exactly, translateChecks, term-number, term-decides-exactly}

@@ -27,7 +27,7 @@ use Rattle.theory.proofs.RunBound.{run-bound}
 use Rattle.theory.proofs.Run.{run-right}
 use Rattle.theory.proofs.Sizes.{s-le-8, N-le-24}
 use Rattle.demands.proofs.Bytes.{AllFit, within-fits, read-four}
-use Rattle.demands.proofs.Answers.{Accepted}
+use Rattle.demands.proofs.NormalForms.{Accepted}
 use Rattle.demands.proofs.Formulas.{Translatable}
 use Rattle.demands.proofs.InputLines.{Framed, lineAt}
 use Rattle.demands.proofs.OutputLines.{AllBytes, is-byte, all-lines, frame-prints, both-print, rows-print, terms-print, frame-back, frame-framed, NumbersLine, numbers-line}

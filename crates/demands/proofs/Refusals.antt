@@ -23,8 +23,8 @@ use Rattle.theory.proofs.Accepted.{AllPass}
 use Rattle.scaling.specs.declared.BuildAnswer.{BuildAnswer}
 use Rattle.formulas.specs.declared.WeighAnswer.{WeighAnswer}
 use Rattle.formulas.specs.declared.TranslateAnswer.{TranslateAnswer}
-use Rattle.scaling.specs.Answers.{Builds}
-use Rattle.formulas.specs.Answers.{Weighs, Translates}
+use Rattle.scaling.specs.BuildPromise.{Builds}
+use Rattle.formulas.specs.FormulaPromises.{Weighs, Translates}
 use Rattle.demands.proofs.Order.{DecidedBy, taken-exactly, refused-exactly, not-taken-and-refused, one-refusal}
 use Rattle.demands.proofs.Order.{buildChecks, build-not-0, weighChecks, weigh-not-0, translateChecks, translate-not-0}
 

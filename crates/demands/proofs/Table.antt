@@ -23,8 +23,8 @@ use Rattle.whole.proofs.Tests.{and-both}
 use Rattle.theory.proofs.Run.{run-steps}
 use Rattle.theory.proofs.Sequence.{written}
 use Rattle.theory.proofs.Flag.{SomeBeyond, run-over}
-use Rattle.scaling.specs.Answers.{RoomToBuild}
-use Rattle.formulas.specs.Answers.{RoomToTranslate}
+use Rattle.scaling.specs.BuildPromise.{RoomToBuild}
+use Rattle.formulas.specs.FormulaPromises.{RoomToTranslate}
 use Rattle.theory.proofs.Accepted.{Sizes}
 use Rattle.demands.proofs.Order.{first-out-exactly, none-out-exactly}
 use Rattle.demands.proofs.Limits.{both, and-exactly, at-least, sizes-exactly, problem-fits-exactly, formula-fits-exactly, modulus-exactly, entry-exactly, exponent-exactly, flag-exactly}

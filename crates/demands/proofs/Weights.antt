@@ -19,7 +19,7 @@ use Rattle.rules.specs.Formulas.{weight, Free}
 use Rattle.rules.specs.Calls.{Check, Verdict, taken, problemFits, exponentsCheck, weighVerdict, weighOf, weighed, weights, checksTo5}
 use Rattle.theory.proofs.Accepted.{AllPass, exponents-small}
 use Rattle.formulas.specs.declared.WeighAnswer.{WeighAnswer}
-use Rattle.formulas.specs.Answers.{Weighs}
+use Rattle.formulas.specs.FormulaPromises.{Weighs}
 use Rattle.demands.proofs.Order.{all-pass-append, taken-exactly}
 use Rattle.demands.proofs.Limits.{and-exactly, at-least, five-exactly}
 use Rattle.demands.proofs.Table.{row-6}

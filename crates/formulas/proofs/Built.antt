@@ -1,14 +1,14 @@
 -- What a build in a translation tells and leaves: check 7, and W with the rank, once checks 1 to 6 are passed.
-use mathlib.Core.Path.{_≡_, refl, sym, _∙_, ap, ap₂, subst}
-use mathlib.Core.Bool.{Bool, true, false, not}
+use mathlib.Core.Path.{_≡_, subst}
+use mathlib.Core.Bool.{Bool, true}
 use mathlib.Core.List.{List, [], _∷_, _++_}
-use Prim.Native.Nat.{ℕ, zero, suc, _+_, _-_, _*_, _<_, _≤_}
+use Prim.Native.Nat.{ℕ, zero, suc, _+_, _-_, _<_, _≤_}
 use native.Mathlib.Decide.{decLt}
 use native.Mathlib.Omega.{arith}
 use lib.ListN.{length, drop, replicate, getD-replicate, length-replicate, List·getD-append, List·getD-eq-default}
 use lib.Seq.{getD-drop, getD-append-add}
 use lib.IntN.{ℤ, pos, natAbs}
-use Rattle.whole.specs.Lists.{nth, tab, join}
+use Rattle.whole.specs.Lists.{nth, tab}
 use Rattle.whole.specs.Matrix.{Matrix}
 use Rattle.rules.specs.Limits.{M}
 use Rattle.rules.specs.Problem.{Problem, N}
@@ -21,12 +21,12 @@ use Rattle.theory.proofs.Grid.{table-filled}
 use Rattle.theory.proofs.Refusals.{goes-on}
 use Rattle.checks.specs.declared.Refusal.{Refusal}
 use Rattle.checks.specs.Checks.{Says, given, TellsTo6}
-use Rattle.checks.specs.Moduli.{problemOf}
+use Rattle.checks.specs.Moduli.{lentProblem}
 use Rattle.checks.proofs.Verdicts.{formula-passed, problem-passed-alone}
 use Rattle.scaling.specs.declared.BuildAnswer.{BuildAnswer}
-use Rattle.scaling.specs.Join.{Small}
+use Rattle.scaling.specs.WorkState.{Small}
 use Rattle.scaling.proofs.Called.{Called, build-says, build-taken, build-well-formed, build-in-range}
-use Rattle.formulas.specs.Answers.{Solved}
+use Rattle.formulas.specs.FormulaPromises.{Solved}
 
 -- ---- lists whose entries are small
 small-append : (xs ys : List ℤ) → Small xs → Small ys → Small (xs ++ ys)
@@ -93,5 +93,5 @@ module _ {m n : ℕ} {matrix moduli : List ℤ} {terms : ℕ} {es : List ℤ} {o
           entries = λ i j a b. rw (B .w) (table-filled (N P) (N P) (W (run P)) w i j a b);
         }
 
-    pub solved : Solved (problemOf n matrix moduli) w₁ (r .rank)
+    pub solved : Solved (lentProblem n matrix moduli) w₁ (r .rank)
     solved = subst (λ Q. Solved Q w₁ (r .rank)) (formula-passed t passed .same) as-given

@@ -15,7 +15,7 @@ use Rattle.whole.proofs.Order as order
 use Rattle.whole.proofs.Sum.{products-size}
 use Rattle.rules.specs.Limits.{M}
 use Rattle.formulas.specs.declared.terms.Exponents.{Exponents}
-use Rattle.formulas.specs.Terms.{Products, RowIn}
+use Rattle.formulas.specs.Terms.{Products, RowOfW}
 use Rattle.checks.proofs.Values.{abs32, fits32, widened, quot-fits, bits-pos}
 
 -- s is the sum of the first j, r is the next, and the sum with it fits
@@ -59,7 +59,7 @@ dot-small {a} {b} {at} {from} {count} p k h =
     let y : ℕ → ℤ = λ j. nth b (from + j) in
     omega (arith, p .few, products-size count k 1000 10_000 x y h (λ i l. p .a-small (at + i)) (λ i l. p .b-small (from + i)))
 
-pub row-small : {w : List ℤ} {n row : ℕ} {e : Exponents} → RowIn w n row e → (k : ℕ) → k ≤ n
+pub row-small : {w : List ℤ} {n row : ℕ} {e : Exponents} → RowOfW w n row e → (k : ℕ) → k ≤ n
     → natAbs (sum k (λ c. nth w (row * n + c) *ℤ nth (e .x) c)) ≤ 24 * (M * 160_000_000)
 row-small {w} {n} {row} {e} p k h =
     let x : ℕ → ℤ = λ c. nth w (row * n + c) in

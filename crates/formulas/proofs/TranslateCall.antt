@@ -1,5 +1,5 @@
 -- The call `translate`: a refusal as it stands, or the formula in the groups; from the answers of checks 1 to 6, of the build, and of 8 and 9.
-use mathlib.Core.Path.{_≡_, refl, _∙_, ap, subst}
+use mathlib.Core.Path.{_≡_, refl, _∙_, ap}
 use mathlib.Core.Logic.{_≢_}
 use mathlib.Core.Bool.{_&&_}
 use mathlib.Core.List.{List, [], _∷_, _++_}
@@ -19,12 +19,12 @@ use Rattle.theory.proofs.Refusals.{goes-on, stays}
 use Rattle.theory.proofs.Accepted.{all-pass, formula-accepted, terms-taken}
 use Rattle.checks.specs.declared.Refusal.{Refusal}
 use Rattle.checks.specs.Checks.{Says, given, TellsTo6}
-use Rattle.checks.specs.Moduli.{problemOf}
+use Rattle.checks.specs.Moduli.{lentProblem}
 use Rattle.checks.proofs.Verdicts.{says-taken, says-refused, to6, formula-refused, formula-passed, exponents-passed, past-6}
 use Rattle.scaling.specs.declared.BuildAnswer.{BuildAnswer}
 use Rattle.scaling.proofs.Called.{Called}
 use Rattle.formulas.specs.declared.TranslateAnswer.{TranslateAnswer}
-use Rattle.formulas.specs.Answers.{Translates, RoomToTranslate, formulaOf, AllTaken}
+use Rattle.formulas.specs.FormulaPromises.{Translates, RoomToTranslate, lentFormula, AllTaken}
 use Rattle.formulas.proofs.Built.{range-says}
 
 -- ---- from a verdict
@@ -70,7 +70,7 @@ module _ {m n : ℕ} {matrix moduli es : List ℤ} {c : Refusal} (cs ks ts : Lis
   P = given m n matrix moduli
 
   abbrev f : Formula
-  f = formulaOf cs es
+  f = lentFormula cs es
 
   abbrev last3 : List Check
   last3 = rangeCheck (run P) ∷ termsCheck P (run P) f ∷ []
@@ -86,7 +86,7 @@ module _ {m n : ℕ} {matrix moduli es : List ℤ} {c : Refusal} (cs ks ts : Lis
   translate-refused h = rw (translate-is refl) (refuses P f ks ts (formula-refused t h last3))
 
   module _ (e : c .number ≡ 0) where
-    pub well-formed : WellFormed (problemOf n matrix moduli)
+    pub well-formed : WellFormed (lentProblem n matrix moduli)
     well-formed = formula-passed t e .wellFormed
 
     pub room : RoomToTranslate ks ts
@@ -94,8 +94,8 @@ module _ {m n : ℕ} {matrix moduli es : List ℤ} {c : Refusal} (cs ks ts : Lis
         let b = and-both (leb roomCoefficients (length ks)) (leb roomExponents (length ts)) (formula-passed t e .room) in
         record { kept = leb-true roomCoefficients (length ks) (b .0); translated = leb-true roomExponents (length ts) (b .1) }
 
-    pub good-formula : WellFormedFormula (problemOf n matrix moduli) f
-    good-formula = formula-accepted (problemOf n matrix moduli) f (formula-passed t e .also) (exponents-passed t e)
+    pub good-formula : WellFormedFormula (lentProblem n matrix moduli) f
+    good-formula = formula-accepted (lentProblem n matrix moduli) f (formula-passed t e .also) (exponents-passed t e)
 
     -- ---- 7
     module _ {h v w : List ℤ} {r : BuildAnswer} {h₁ v₁ w₁ : List ℤ} (K : Called (given m n matrix moduli) h v w r h₁ v₁ w₁) where
@@ -104,7 +104,7 @@ module _ {m n : ℕ} {matrix moduli es : List ℤ} {c : Refusal} (cs ks ts : Lis
           ∙ stays (rangeCheck (run P) ∷ []) (termsCheck P (run P) f ∷ []) (r .number) (r .place) (says-refused (range-says t e K) z)))
 
       pub translate-passed : r .number ≡ 0 → {a : TranslateAnswer} {ks₁ ts₁ : List ℤ}
-          → Translates (translatedTo (problemOf n matrix moduli) f ks ts (verdict (termsCheck (problemOf n matrix moduli) (run (problemOf n matrix moduli)) f ∷ []))) a ks₁ ts₁
+          → Translates (translatedTo (lentProblem n matrix moduli) f ks ts (verdict (termsCheck (lentProblem n matrix moduli) (run (lentProblem n matrix moduli)) f ∷ []))) a ks₁ ts₁
           → Translates (translateOf P f ks ts) a ks₁ ts₁
       translate-passed z {a} {ks₁} {ts₁} T =
           rw (translate-is (past-6 t e last3 ∙ goes-on (rangeCheck (run P) ∷ []) (termsCheck P (run P) f ∷ []) (says-taken (range-says t e K) z)), formula-passed t e .same) T

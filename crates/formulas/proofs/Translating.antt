@@ -14,22 +14,22 @@ use Rattle.rules.specs.Limits.{beyond}
 use Rattle.rules.specs.Search.{first}
 use Rattle.rules.specs.Problem.{Problem, N, WellFormed}
 use Rattle.rules.specs.Stages.{run, W}
-use Rattle.rules.specs.Formulas.{isNone, isFree, kAnd, d, translated, passes, WellFormedFormula}
+use Rattle.rules.specs.Formulas.{isNone, isFree, kThenV, d, translated, passes, WellFormedFormula}
 use Rattle.rules.specs.Calls.{termRefused, termNumber}
 use Rattle.theory.proofs.Search.{first-cong}
 use Rattle.theory.proofs.Accepted.{term-accepted}
 use Rattle.formulas.specs.declared.terms.Exponents.{Exponents}
 use Rattle.checks.specs.declared.ModulusRows.{ModulusRows}
-use Rattle.checks.specs.Moduli.{problemOf, Lists}
-use Rattle.formulas.specs.Terms.{Monomial, KAnd, rowOfW, RowsIn}
-use Rattle.formulas.specs.Answers.{formulaOf, Solved, judged, Passing}
+use Rattle.checks.specs.Moduli.{lentProblem, Lists}
+use Rattle.formulas.specs.Terms.{Monomial, KThenV, rowOfW, RowsOfW}
+use Rattle.formulas.specs.FormulaPromises.{lentFormula, Solved, judged, Passing}
 use Rattle.checks.proofs.Values.{not-beyond}
 
 -- ---- the exponents in the groups; the code's number of columns is n + s
 module _ {n : ℕ} {matrix moduli : List ℤ} {q : ModulusRows} {w : List ℤ} {r : ℕ}
-    (F : WellFormed (problemOf n matrix moduli)) (L : Lists (problemOf n matrix moduli) q) (S : Solved (problemOf n matrix moduli) w r) where
+    (F : WellFormed (lentProblem n matrix moduli)) (L : Lists (lentProblem n matrix moduli) q) (S : Solved (lentProblem n matrix moduli) w r) where
   abbrev P : Problem
-  P = problemOf n matrix moduli
+  P = lentProblem n matrix moduli
 
   cols-are : n + q .s ≡ N P
   cols-are = ap (λ k. n + k) (L .count)
@@ -48,8 +48,8 @@ module _ {n : ℕ} {matrix moduli : List ℤ} {q : ModulusRows} {w : List ℤ} {
       let few : n + q .s - r ≤ 16 = omega (arith, cols-are, S .groups, F .n-high) in
       mul-le-mul h few
 
-  module _ {v : ℕ → ℤ} {e : Exponents} (K : KAnd P v e) where
-    pub rows-in : RowsIn w (n + q .s) r e
+  module _ {v : ℕ → ℤ} {e : Exponents} (K : KThenV P v e) where
+    pub rows-in : RowsOfW w (n + q .s) r e
     rows-in = record {
       few = few-cols;
       r-in = rank-in;
@@ -63,7 +63,7 @@ module _ {n : ℕ} {matrix moduli : List ℤ} {q : ModulusRows} {w : List ℤ} {
     exponent-is g h =
         let row-in : r + g < N P = omega (arith, cols-are) in
         ap (λ k. rowOfW w k (r + g) (e .x)) cols-are
-        ∙ sum-cong (N P) (λ c. nth w ((r + g) * N P + c) *ℤ nth (e .x) c) (λ c. W (run P) (run P .rank + g) c *ℤ kAnd P v c)
+        ∙ sum-cong (N P) (λ c. nth w ((r + g) * N P + c) *ℤ nth (e .x) c) (λ c. W (run P) (run P .rank + g) c *ℤ kThenV P v c)
         (λ c l. ap₂ _*ℤ_ (S .entries (r + g) c row-in l ∙ ap (λ k. W (run P) (k + g) c) (S .rank)) (K .entries c l))
 
     pub passes-is : not (isNone (first (λ g. beyond (rowOfW w (n + q .s) (r + g) (e .x))) 0 (n + q .s - r))) ≡ passes P (run P) v
@@ -82,8 +82,8 @@ module _ {n : ℕ} {matrix moduli : List ℤ} {q : ModulusRows} {w : List ℤ} {
     }
 
 -- ---- where a term's exponents stand
-module _ {n : ℕ} {matrix moduli cs es : List ℤ} (F : WellFormed (problemOf n matrix moduli))
-    (G : WellFormedFormula (problemOf n matrix moduli) (formulaOf cs es)) (t : ℕ) (h : t < length cs) where
+module _ {n : ℕ} {matrix moduli cs es : List ℤ} (F : WellFormed (lentProblem n matrix moduli))
+    (G : WellFormedFormula (lentProblem n matrix moduli) (lentFormula cs es)) (t : ℕ) (h : t < length cs) where
   pub term-place : t * n ≤ 1024
   term-place =
       let few : t ≤ 64 = omega (arith, G .few) in

@@ -2,7 +2,7 @@
 use mathlib.Core.Path.{_≡_, refl, sym, _∙_, ap}
 use mathlib.Core.Logic.{_≢_}
 use mathlib.Core.Bool.{Bool, _&&_, and-true}
-use mathlib.Core.List.{List, []}
+use mathlib.Core.List.{List}
 use Prim.Native.Nat.{ℕ, _≤_}
 use native.Mathlib.Nat.{one-mul}
 use native.Mathlib.Omega.{arith}
@@ -13,14 +13,14 @@ use borrow.Author.Tests.{leb-true, eqb-true}
 use Rattle.whole.specs.Lists.{nth}
 use Rattle.rules.specs.Limits.{roomWeights}
 use Rattle.rules.specs.Problem.{Problem, WellFormed}
-use Rattle.rules.specs.Calls.{Verdict, taken, refused, verdict, problemFits, weights, filled, weighed, weighOf, weighVerdict}
+use Rattle.rules.specs.Calls.{Verdict, verdict, problemFits, weights, filled, weighed, weighOf, weighVerdict}
 use Rattle.theory.proofs.Accepted.{exponents-small}
 use Rattle.checks.specs.declared.Refusal.{Refusal}
 use Rattle.checks.specs.Checks.{given, termsFit, TellsTo6}
-use Rattle.checks.specs.Moduli.{problemOf}
+use Rattle.checks.specs.Moduli.{lentProblem}
 use Rattle.checks.proofs.Verdicts.{says-taken, says-refused, to6, formula-passed, exponents-passed}
 use Rattle.formulas.specs.Terms.{Monomial}
-use Rattle.formulas.specs.Answers.{Weighs}
+use Rattle.formulas.specs.FormulaPromises.{Weighs}
 
 -- a monomial is one term
 one-term : (n exponents : ℕ) → termsFit n 1 exponents ≡ eqb exponents n
@@ -39,7 +39,7 @@ module _ {m n : ℕ} {matrix moduli es : List ℤ} {c : Refusal} (out : List ℤ
   weigh-refused d = rw (weigh-is (says-refused (t .says) d)) (record { number = refl; place = refl; weights = refl })
 
   module _ (e : c .number ≡ 0) where
-    pub well-formed : WellFormed (problemOf n matrix moduli)
+    pub well-formed : WellFormed (lentProblem n matrix moduli)
     well-formed = formula-passed t e .wellFormed
 
     pub room : 8 ≤ length out
@@ -51,7 +51,7 @@ module _ {m n : ℕ} {matrix moduli es : List ℤ} {c : Refusal} (out : List ℤ
       small = exponents-small es (exponents-passed t e);
     }
 
-    pub weigh-passed : {out₁ : List ℤ} → out₁ ≡ filled (weights (problemOf n matrix moduli) (nth es)) out
+    pub weigh-passed : {out₁ : List ℤ} → out₁ ≡ filled (weights (lentProblem n matrix moduli) (nth es)) out
         → Weighs (weighOf P es out) (record { number = 0; place = 0 }) out₁
     weigh-passed w = rw (weigh-is (says-taken (t .says) e)) (record {
       number = refl;

@@ -21,7 +21,7 @@ use Rattle.rules.specs.Formulas.{rowTimes, weight}
 use Rattle.theory.proofs.Weights.{weight-without, weight-with}
 use Rattle.theory.proofs.Limits.{isZero?}
 use Rattle.theory.proofs.Sizes as sizes
-use Rattle.checks.specs.Moduli.{problemOf}
+use Rattle.checks.specs.Moduli.{lentProblem}
 use Rattle.formulas.specs.Terms.{from, Monomial, Products, Weight}
 use Rattle.checks.proofs.Values.{fits32}
 
@@ -29,10 +29,10 @@ use Rattle.checks.proofs.Values.{fits32}
 pub from-front : (es : List ℤ) → from es 0 ≡ nth es
 from-front es = fun-ext (λ j. ap (nth es) (zero-add j))
 
-module _ {n : ℕ} {matrix moduli es : List ℤ} {start : ℕ} (F : WellFormed (problemOf n matrix moduli)) (E : Monomial n es start)
+module _ {n : ℕ} {matrix moduli es : List ℤ} {start : ℕ} (F : WellFormed (lentProblem n matrix moduli)) (E : Monomial n es start)
     (i : ℕ) (within : i < length moduli) where
   abbrev P : Problem
-  P = problemOf n matrix moduli
+  P = lentProblem n matrix moduli
 
   abbrev v : ℕ → ℤ
   v = from es start

@@ -1,4 +1,4 @@
--- Terms      exponents in a lent list, k followed by v, rows of W
--- Answers    what `weigh` and `translate` answer
+-- Terms             exponents in a lent list, k followed by v, rows of W
+-- FormulaPromises   what `weigh` and `translate` answer
 pub mod Terms
-pub mod Answers
+pub mod FormulaPromises

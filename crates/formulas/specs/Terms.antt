@@ -7,9 +7,9 @@ use lib.IntN.{ℤ, natAbs, _*ℤ_}
 use Rattle.whole.specs.Lists.{nth, tab}
 use Rattle.whole.specs.Sum.{sum}
 use Rattle.rules.specs.Problem.{Problem, s, N, modulus}
-use Rattle.rules.specs.Formulas.{weight, kOf, kAnd}
+use Rattle.rules.specs.Formulas.{weight, kOf, kThenV}
 use Rattle.formulas.specs.declared.terms.Exponents.{Exponents}
-use Rattle.scaling.specs.Join.{Small}
+use Rattle.scaling.specs.WorkState.{Small}
 
 -- the exponents that begin at an index
 abbrev pub from : List ℤ → (at : ℕ) → ℕ → ℤ
@@ -48,15 +48,15 @@ pub record HoldsK (P : Problem) (v : ℕ → ℤ) (e : Exponents) : Type 0 where
   pub small : (c : ℕ) → natAbs (nth (e .x) c) ≤ 160_000_000
 
 -- e is k followed by v
-pub record KAnd (P : Problem) (v : ℕ → ℤ) (e : Exponents) : Type 0 where
-  pub entries : (c : ℕ) → c < N P → nth (e .x) c ≡ kAnd P v c
+pub record KThenV (P : Problem) (v : ℕ → ℤ) (e : Exponents) : Type 0 where
+  pub entries : (c : ℕ) → c < N P → nth (e .x) c ≡ kThenV P v c
   pub small : (c : ℕ) → natAbs (nth (e .x) c) ≤ 160_000_000
 
 -- row `row` of W times an array
 abbrev pub rowOfW : (w : List ℤ) (n row : ℕ) (e : List ℤ) → ℤ
 rowOfW w n row e = sum n (λ c. nth w (row * n + c) *ℤ nth e c)
 
-pub record RowIn (w : List ℤ) (n row : ℕ) (e : Exponents) : Type 0 where
+pub record RowOfW (w : List ℤ) (n row : ℕ) (e : Exponents) : Type 0 where
   pub few : n ≤ 24
   pub row-in : row < n
   pub length : n * n ≤ length w
@@ -64,7 +64,7 @@ pub record RowIn (w : List ℤ) (n row : ℕ) (e : Exponents) : Type 0 where
   pub e-small : (c : ℕ) → natAbs (nth (e .x) c) ≤ 160_000_000
 
 -- the rows from r on
-pub record RowsIn (w : List ℤ) (n r : ℕ) (e : Exponents) : Type 0 where
+pub record RowsOfW (w : List ℤ) (n r : ℕ) (e : Exponents) : Type 0 where
   pub few : n ≤ 24
   pub r-in : r ≤ n
   pub length : n * n ≤ length w

@@ -10,9 +10,9 @@ ghost use Rattle.rules.specs.Formulas.{WellFormedFormula};
 ghost use Rattle.rules.specs.Calls.{verdict, termsCheck, filled, weighOf, translatedTo, translateOf, translatedExponents};
 ghost use Rattle.rules.specs.Calls as calls;
 ghost use Rattle.checks.specs.Checks.{Says, given};
-ghost use Rattle.checks.specs.Moduli.{problemOf, Lists};
-ghost use Rattle.formulas.specs.Terms.{from, Monomial, rowOfW, RowsIn, written};
-ghost use Rattle.formulas.specs.Answers.{Weighs, Translates, RoomToTranslate, formulaOf, Solved, judged, Passing, AllTaken};
+ghost use Rattle.checks.specs.Moduli.{lentProblem, Lists};
+ghost use Rattle.formulas.specs.Terms.{from, Monomial, rowOfW, RowsOfW, written};
+ghost use Rattle.formulas.specs.FormulaPromises.{Weighs, Translates, RoomToTranslate, lentFormula, Solved, judged, Passing, AllTaken};
 use checks::ROOM_COEFFICIENTS;
 use checks::ROOM_EXPONENTS;
 use checks::ROOM_H;
@@ -43,10 +43,10 @@ pub struct TranslateAnswer {
 
 // The weights of a monomial of a problem that has passed its checks.
 fn weigh_checked(n: usize, matrix: &[i32], moduli: &[i32], exponents: &[i32], weights: &mut [i32])
-    requires { ⌜ WellFormed (problemOf n (now matrix) (now moduli)) ⌝ }
+    requires { ⌜ WellFormed (lentProblem n (now matrix) (now moduli)) ⌝ }
     requires { ⌜ Monomial n (now exponents) 0 ⌝ }
     requires { ⌜ 8 ≤ length (now weights) ⌝ }
-    ensures { λ r. ⌜ now (weights .exit) ≡ filled (calls.weights (problemOf n (now (matrix .entry)) (now (moduli .entry))) (nth (now (exponents .entry)))) (now (weights .entry)) ⌝ }
+    ensures { λ r. ⌜ now (weights .exit) ≡ filled (calls.weights (lentProblem n (now (matrix .entry)) (now (moduli .entry))) (nth (now (exponents .entry)))) (now (weights .entry)) ⌝ }
 {
     let mut i = 0;
     while i < moduli.len() {
@@ -101,16 +101,16 @@ fn judge(
     exponents: &[i32],
     start: usize,
 ) -> u32
-    requires { ⌜ WellFormed (problemOf n (now matrix) (now moduli)) ⌝ }
-    requires { ⌜ Lists (problemOf n (now matrix) (now moduli)) q ⌝ }
-    requires { ⌜ Solved (problemOf n (now matrix) (now moduli)) (now w) r ⌝ }
+    requires { ⌜ WellFormed (lentProblem n (now matrix) (now moduli)) ⌝ }
+    requires { ⌜ Lists (lentProblem n (now matrix) (now moduli)) q ⌝ }
+    requires { ⌜ Solved (lentProblem n (now matrix) (now moduli)) (now w) r ⌝ }
     requires { ⌜ Monomial n (now exponents) start ⌝ }
-    ensures { λ x. ⌜ x ≡ judged (problemOf n (now (matrix .entry)) (now (moduli .entry))) (from (now (exponents .entry)) start) ⌝ }
+    ensures { λ x. ⌜ x ≡ judged (lentProblem n (now (matrix .entry)) (now (moduli .entry))) (from (now (exponents .entry)) start) ⌝ }
 {
     if !terms::is_free(n, matrix, moduli, exponents, start) {
         return 8;
     }
-    let e = terms::k_and(n, matrix, moduli, q, exponents, start);
+    let e = terms::k_then_v(n, matrix, moduli, q, exponents, start);
     if terms::passes(w, n + q.s, r, e) {
         return 9;
     }
@@ -128,11 +128,11 @@ fn judge_all(
     coefficients: &[i32],
     exponents: &[i32],
 ) -> Refusal
-    requires { ⌜ WellFormed (problemOf n (now matrix) (now moduli)) ⌝ }
-    requires { ⌜ Lists (problemOf n (now matrix) (now moduli)) q ⌝ }
-    requires { ⌜ Solved (problemOf n (now matrix) (now moduli)) (now w) r ⌝ }
-    requires { ⌜ WellFormedFormula (problemOf n (now matrix) (now moduli)) (formulaOf (now coefficients) (now exponents)) ⌝ }
-    ensures { λ x. ⌜ Says (x .number) (x .place) (verdict (termsCheck (problemOf n (now (matrix .entry)) (now (moduli .entry))) (stages.run (problemOf n (now (matrix .entry)) (now (moduli .entry)))) (formulaOf (now (coefficients .entry)) (now (exponents .entry))) ∷ [])) ⌝ }
+    requires { ⌜ WellFormed (lentProblem n (now matrix) (now moduli)) ⌝ }
+    requires { ⌜ Lists (lentProblem n (now matrix) (now moduli)) q ⌝ }
+    requires { ⌜ Solved (lentProblem n (now matrix) (now moduli)) (now w) r ⌝ }
+    requires { ⌜ WellFormedFormula (lentProblem n (now matrix) (now moduli)) (lentFormula (now coefficients) (now exponents)) ⌝ }
+    ensures { λ x. ⌜ Says (x .number) (x .place) (verdict (termsCheck (lentProblem n (now (matrix .entry)) (now (moduli .entry))) (stages.run (lentProblem n (now (matrix .entry)) (now (moduli .entry)))) (lentFormula (now (coefficients .entry)) (now (exponents .entry))) ∷ [])) ⌝ }
 {
     let mut t = 0;
     while t < coefficients.len() {
@@ -160,7 +160,7 @@ fn translate_term(
     r: usize,
     e: Exponents,
 )
-    requires { ⌜ RowsIn (now w) cols r e ⌝ }
+    requires { ⌜ RowsOfW (now w) cols r e ⌝ }
     requires { ⌜ Passing (now w) cols r e ⌝ }
     requires { ⌜ at + (cols - r) ≤ length (now out) ⌝ }
     ensures { λ x. ⌜ now (out .exit) ≡ written (now (out .entry)) at (cols - r) (λ g. rowOfW (now (w .entry)) cols (r + g) (e .x)) ⌝ }
@@ -187,20 +187,20 @@ fn translate_all(
     coefficients: &[i32],
     exponents: &[i32],
 )
-    requires { ⌜ WellFormed (problemOf n (now matrix) (now moduli)) ⌝ }
-    requires { ⌜ Lists (problemOf n (now matrix) (now moduli)) q ⌝ }
-    requires { ⌜ Solved (problemOf n (now matrix) (now moduli)) (now w) r ⌝ }
-    requires { ⌜ WellFormedFormula (problemOf n (now matrix) (now moduli)) (formulaOf (now coefficients) (now exponents)) ⌝ }
-    requires { ⌜ RoomToTranslate (now kept) (now out) × AllTaken (problemOf n (now matrix) (now moduli)) (formulaOf (now coefficients) (now exponents)) ⌝ }
+    requires { ⌜ WellFormed (lentProblem n (now matrix) (now moduli)) ⌝ }
+    requires { ⌜ Lists (lentProblem n (now matrix) (now moduli)) q ⌝ }
+    requires { ⌜ Solved (lentProblem n (now matrix) (now moduli)) (now w) r ⌝ }
+    requires { ⌜ WellFormedFormula (lentProblem n (now matrix) (now moduli)) (lentFormula (now coefficients) (now exponents)) ⌝ }
+    requires { ⌜ RoomToTranslate (now kept) (now out) × AllTaken (lentProblem n (now matrix) (now moduli)) (lentFormula (now coefficients) (now exponents)) ⌝ }
     ensures { λ x. ⌜ now (kept .exit) ≡ filled (now (coefficients .entry)) (now (kept .entry)) ⌝ }
-    ensures { λ x. ⌜ now (out .exit) ≡ filled (translatedExponents (problemOf n (now (matrix .entry)) (now (moduli .entry))) (formulaOf (now (coefficients .entry)) (now (exponents .entry)))) (now (out .entry)) ⌝ }
+    ensures { λ x. ⌜ now (out .exit) ≡ filled (translatedExponents (lentProblem n (now (matrix .entry)) (now (moduli .entry))) (lentFormula (now (coefficients .entry)) (now (exponents .entry)))) (now (out .entry)) ⌝ }
 {
     let cols = n + q.s;
     let d = cols - r;
     let mut done = 0;
     while done < coefficients.len() {
         kept[done] = coefficients[done];
-        let e = terms::k_and(n, matrix, moduli, q, exponents, done * n);
+        let e = terms::k_then_v(n, matrix, moduli, q, exponents, done * n);
         translate_term(out, done * d, w, cols, r, e);
         done += 1;
     }
@@ -218,11 +218,11 @@ fn translate_checked(
     kept: &mut [i32],
     translated: &mut [i32],
 ) -> TranslateAnswer
-    requires { ⌜ WellFormed (problemOf n (now matrix) (now moduli)) ⌝ }
-    requires { ⌜ Solved (problemOf n (now matrix) (now moduli)) (now w) r ⌝ }
-    requires { ⌜ WellFormedFormula (problemOf n (now matrix) (now moduli)) (formulaOf (now coefficients) (now exponents)) ⌝ }
+    requires { ⌜ WellFormed (lentProblem n (now matrix) (now moduli)) ⌝ }
+    requires { ⌜ Solved (lentProblem n (now matrix) (now moduli)) (now w) r ⌝ }
+    requires { ⌜ WellFormedFormula (lentProblem n (now matrix) (now moduli)) (lentFormula (now coefficients) (now exponents)) ⌝ }
     requires { ⌜ RoomToTranslate (now kept) (now translated) ⌝ }
-    ensures { λ x. ⌜ Translates (translatedTo (problemOf n (now (matrix .entry)) (now (moduli .entry))) (formulaOf (now (coefficients .entry)) (now (exponents .entry))) (now (kept .entry)) (now (translated .entry)) (verdict (termsCheck (problemOf n (now (matrix .entry)) (now (moduli .entry))) (stages.run (problemOf n (now (matrix .entry)) (now (moduli .entry)))) (formulaOf (now (coefficients .entry)) (now (exponents .entry))) ∷ []))) x (now (kept .exit)) (now (translated .exit)) ⌝ }
+    ensures { λ x. ⌜ Translates (translatedTo (lentProblem n (now (matrix .entry)) (now (moduli .entry))) (lentFormula (now (coefficients .entry)) (now (exponents .entry))) (now (kept .entry)) (now (translated .entry)) (verdict (termsCheck (lentProblem n (now (matrix .entry)) (now (moduli .entry))) (stages.run (lentProblem n (now (matrix .entry)) (now (moduli .entry)))) (lentFormula (now (coefficients .entry)) (now (exponents .entry))) ∷ []))) x (now (kept .exit)) (now (translated .exit)) ⌝ }
 {
     let q = modulus_rows(moduli);
     let j = judge_all(n, matrix, moduli, q, w, r, coefficients, exponents);
@@ -264,7 +264,7 @@ pub fn translate(
     kept: &mut [i32],
     translated: &mut [i32],
 ) -> TranslateAnswer
-    ensures { λ r. ⌜ Translates (translateOf (given m n (now (matrix .entry)) (now (moduli .entry))) (formulaOf (now (coefficients .entry)) (now (exponents .entry))) (now (kept .entry)) (now (translated .entry))) r (now (kept .exit)) (now (translated .exit)) ⌝ }
+    ensures { λ r. ⌜ Translates (translateOf (given m n (now (matrix .entry)) (now (moduli .entry))) (lentFormula (now (coefficients .entry)) (now (exponents .entry))) (now (kept .entry)) (now (translated .entry))) r (now (kept .exit)) (now (translated .exit)) ⌝ }
 {
     let outputs = both(
         ROOM_COEFFICIENTS <= kept.len(),

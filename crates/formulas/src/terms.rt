@@ -12,8 +12,8 @@ ghost use Rattle.rules.specs.Search.{first};
 ghost use Rattle.rules.specs.Problem.{s, modulus, WellFormed};
 ghost use Rattle.rules.specs.Formulas.{rowTimes, isFree, isNone};
 ghost use Rattle.rules.specs.Formulas as formulas;
-ghost use Rattle.checks.specs.Moduli.{problemOf, Lists};
-ghost use Rattle.formulas.specs.Terms.{from, Monomial, Products, Modulus, HoldsK, KAnd, Weight, Limited, rowOfW, RowIn, RowsIn};
+ghost use Rattle.checks.specs.Moduli.{lentProblem, Lists};
+ghost use Rattle.formulas.specs.Terms.{from, Monomial, Products, Modulus, HoldsK, KThenV, Weight, Limited, rowOfW, RowOfW, RowsOfW};
 use checks::ModulusRows;
 use checks::beyond;
 use checks::is_zero;
@@ -48,10 +48,10 @@ fn remainder(x: i64, p: i32) -> i64
 
 // The weight in row i of the exponents that begin at `start`.
 pub fn weight(n: usize, matrix: &[i32], moduli: &[i32], es: &[i32], start: usize, i: usize) -> i64
-    requires { ⌜ WellFormed (problemOf n (now matrix) (now moduli)) ⌝ }
+    requires { ⌜ WellFormed (lentProblem n (now matrix) (now moduli)) ⌝ }
     requires { ⌜ Monomial n (now es) start ⌝ }
     requires { ⌜ i < length (now moduli) ⌝ }
-    ensures { λ r. ⌜ Weight (problemOf n (now (matrix .entry)) (now (moduli .entry))) (from (now (es .entry)) start) i r ⌝ }
+    ensures { λ r. ⌜ Weight (lentProblem n (now (matrix .entry)) (now (moduli .entry))) (from (now (es .entry)) start) i r ⌝ }
 {
     let x = dot(matrix, i * n, es, start, n);
     let p = moduli[i];
@@ -59,9 +59,9 @@ pub fn weight(n: usize, matrix: &[i32], moduli: &[i32], es: &[i32], start: usize
 }
 
 pub fn is_free(n: usize, matrix: &[i32], moduli: &[i32], es: &[i32], start: usize) -> bool
-    requires { ⌜ WellFormed (problemOf n (now matrix) (now moduli)) ⌝ }
+    requires { ⌜ WellFormed (lentProblem n (now matrix) (now moduli)) ⌝ }
     requires { ⌜ Monomial n (now es) start ⌝ }
-    ensures { λ r. ⌜ r ≡ isFree (problemOf n (now (matrix .entry)) (now (moduli .entry))) (from (now (es .entry)) start) ⌝ }
+    ensures { λ r. ⌜ r ≡ isFree (lentProblem n (now (matrix .entry)) (now (moduli .entry))) (from (now (es .entry)) start) ⌝ }
 {
     let mut i = 0;
     while i < moduli.len() {
@@ -80,10 +80,10 @@ pub struct Exponents {
 
 // The row times v, divided by the modulus.
 fn k_of(n: usize, matrix: &[i32], moduli: &[i32], es: &[i32], start: usize, i: usize) -> i64
-    requires { ⌜ WellFormed (problemOf n (now matrix) (now moduli)) ⌝ }
+    requires { ⌜ WellFormed (lentProblem n (now matrix) (now moduli)) ⌝ }
     requires { ⌜ Monomial n (now es) start ⌝ }
-    requires { ⌜ Modulus (problemOf n (now matrix) (now moduli)) i ⌝ }
-    ensures { λ r. ⌜ r ≡ quotZ (rowTimes (problemOf n (now (matrix .entry)) (now (moduli .entry))) (from (now (es .entry)) start) i) (modulus (problemOf n (now (matrix .entry)) (now (moduli .entry))) i) ⌝ }
+    requires { ⌜ Modulus (lentProblem n (now matrix) (now moduli)) i ⌝ }
+    ensures { λ r. ⌜ r ≡ quotZ (rowTimes (lentProblem n (now (matrix .entry)) (now (moduli .entry))) (from (now (es .entry)) start) i) (modulus (lentProblem n (now (matrix .entry)) (now (moduli .entry))) i) ⌝ }
 {
     let x = dot(matrix, i * n, es, start, n);
     x / (moduli[i] as i64)
@@ -98,11 +98,11 @@ fn fill_k(
     es: &[i32],
     start: usize,
 ) -> Exponents
-    requires { ⌜ WellFormed (problemOf n (now matrix) (now moduli)) ⌝ }
-    requires { ⌜ Lists (problemOf n (now matrix) (now moduli)) q ⌝ }
+    requires { ⌜ WellFormed (lentProblem n (now matrix) (now moduli)) ⌝ }
+    requires { ⌜ Lists (lentProblem n (now matrix) (now moduli)) q ⌝ }
     requires { ⌜ Monomial n (now es) start ⌝ }
     requires { ⌜ Limited e ⌝ }
-    ensures { λ r. ⌜ HoldsK (problemOf n (now (matrix .entry)) (now (moduli .entry))) (from (now (es .entry)) start) r ⌝ }
+    ensures { λ r. ⌜ HoldsK (lentProblem n (now (matrix .entry)) (now (moduli .entry))) (from (now (es .entry)) start) r ⌝ }
 {
     let mut c = 0;
     let s = q.s;
@@ -120,7 +120,7 @@ fn wide(x: i32) -> i64
     x as i64
 }
 
-pub fn k_and(
+pub fn k_then_v(
     n: usize,
     matrix: &[i32],
     moduli: &[i32],
@@ -128,10 +128,10 @@ pub fn k_and(
     es: &[i32],
     start: usize,
 ) -> Exponents
-    requires { ⌜ WellFormed (problemOf n (now matrix) (now moduli)) ⌝ }
-    requires { ⌜ Lists (problemOf n (now matrix) (now moduli)) q ⌝ }
+    requires { ⌜ WellFormed (lentProblem n (now matrix) (now moduli)) ⌝ }
+    requires { ⌜ Lists (lentProblem n (now matrix) (now moduli)) q ⌝ }
     requires { ⌜ Monomial n (now es) start ⌝ }
-    ensures { λ r. ⌜ KAnd (problemOf n (now (matrix .entry)) (now (moduli .entry))) (from (now (es .entry)) start) r ⌝ }
+    ensures { λ r. ⌜ KThenV (lentProblem n (now (matrix .entry)) (now (moduli .entry))) (from (now (es .entry)) start) r ⌝ }
 {
     let mut e = fill_k(Exponents { x: [0; 24] }, n, matrix, moduli, q, es, start);
     let s = q.s;
@@ -152,7 +152,7 @@ fn product64(a: i32, b: i64) -> i64
 
 // Row `row` of W times k followed by v; there are n columns.
 pub fn translated(w: &[i32], n: usize, row: usize, e: Exponents) -> i64
-    requires { ⌜ RowIn (now w) n row e ⌝ }
+    requires { ⌜ RowOfW (now w) n row e ⌝ }
     ensures { λ r. ⌜ r ≡ rowOfW (now (w .entry)) n row (e .x) ⌝ }
 {
     let mut sum: i64 = 0;
@@ -166,7 +166,7 @@ pub fn translated(w: &[i32], n: usize, row: usize, e: Exponents) -> i64
 
 // Whether one of the translated exponents of a term is beyond M: the rows of W from r on.
 pub fn passes(w: &[i32], n: usize, r: usize, e: Exponents) -> bool
-    requires { ⌜ RowsIn (now w) n r e ⌝ }
+    requires { ⌜ RowsOfW (now w) n r e ⌝ }
     ensures { λ x. ⌜ x ≡ not (isNone (first (λ g. limits.beyond (rowOfW (now (w .entry)) n (r + g) (e .x))) 0 (n - r))) ⌝ }
 {
     let d = n - r;

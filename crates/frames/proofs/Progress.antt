@@ -12,15 +12,15 @@ use Rattle.rules.specs.Frames.{unhex, TextLine, whole, linesOf, isFrame, isRow,
 use Rattle.theory.proofs.Accepted.{sizes-passed}
 use Rattle.frames.specs.declared.read.Input.{Input}
 use Rattle.frames.specs.Line.{pair, startsFrame}
-use Rattle.frames.specs.Input.{problemIn, formulaIn, Holds, refuses, takes, empty, withRow, withTerm, RowAsks, TermAsks}
+use Rattle.frames.specs.Input.{problemIn, formulaIn, InputHolds, refuses, takes, empty, withRow, withTerm, RowAsks, TermAsks}
 use Rattle.frames.proofs.Digits.{frame-is}
 use Rattle.frames.proofs.Lines.{frame-room, frame-digits, firstIs, bad-line, good-line}
 use Rattle.frames.proofs.FirstBad.{row-passes, row-stops, term-passes, term-stops, full-stops}
 use Rattle.frames.proofs.Stored.{count-more}
-use Rattle.frames.proofs.Held.{Held, held-none, held-row, held-term}
+use Rattle.frames.proofs.InputContents.{LinesHeld, held-none, held-row, held-term}
 
 -- ---- a refusal
-pub refusal-holds : {x : Input} {r : Reading} (number place : ℕ) → x ≡ empty number place 0 0 → (number ≡ 0 → ⊥) → r ≡ unread number place → Holds x r
+pub refusal-holds : {x : Input} {r : Reading} (number place : ℕ) → x ≡ empty number place 0 0 → (number ≡ 0 → ⊥) → r ≡ unread number place → InputHolds x r
 unfolding empty
 refusal-holds number place e h f = rw (e, f) (refuses h)
 
@@ -39,7 +39,7 @@ pub record Past (s : List ℕ) (m n i k p : ℕ) (x : Input) : Type 0 where
   pub terms-count : length terms ≡ k
   pub split : linesOf (drop 7 s) ≡ rows ++ (terms ++ linesOf (drop p s))
   pub left : readingOf (linesOf s) ≡ formed m n (linesOf (drop 7 s)) (firstBad n (m - i) (64 - k) (1 + i + k) (linesOf (drop p s)))
-  pub held : Held m n x rows terms
+  pub held : LinesHeld m n x rows terms
 
 module _ {s : List ℕ} {m n i p : ℕ} {x : Input} (r : Past s m n i 0 p x) (more : i < m) where
   one-less : m - i ≡ suc (m - (i + 1))
@@ -77,7 +77,7 @@ module _ {s : List ℕ} {m n i p : ℕ} {x : Input} (r : Past s m n i 0 p x) (mo
         let c : length (r .rows) ≡ i = r .rows-count in
         let empty-terms : r .terms ≡ [] = no-terms (r .terms) (r .terms-count) in
         let w : length (r .rows) < 8 = omega (arith, r .few-rows) in
-        let h : Held m n (withRow (length (r .rows)) n (drop p s) x) (r .rows ++ l ∷ []) (r .terms)
+        let h : LinesHeld m n (withRow (length (r .rows)) n (drop p s) x) (r .rows ++ l ∷ []) (r .terms)
         = held-row (r .held) (drop p s) (r .few-columns) w (omega (arith, length-drop p s)) in
         let step : firstBad n (m - i) (64 - 0) (1 + i + 0) (linesOf (drop p s)) ≡ firstBad n (m - (i + 1)) (64 - 0) (1 + (i + 1) + 0) ls
         = rw (one-less, ← u) (row-passes n (m - (i + 1)) (64 - 0) (1 + i + 0) s p g) in
@@ -146,7 +146,7 @@ module _ {s : List ℕ} {m n k p : ℕ} {x : Input} (r : Past s m n m k p x) whe
             let u : suc (1 + m + k) ≡ 1 + m + (k + 1) = omega arith in
             let c : length (r .terms) ≡ k = r .terms-count in
             let w : length (r .terms) < 64 = omega (arith, r .terms-behind) in
-            let h : Held m n (withTerm (length (r .terms)) n (drop p s) x) (r .rows) (r .terms ++ l ∷ [])
+            let h : LinesHeld m n (withTerm (length (r .terms)) n (drop p s) x) (r .rows) (r .terms ++ l ∷ [])
             = held-term (r .held) (drop p s) (r .few-columns) w (omega (arith, length-drop p s)) in
             let step : firstBad n (m - m) (64 - k) (1 + m + k) (linesOf (drop p s)) ≡ firstBad n (m - m) (64 - (k + 1)) (1 + m + (k + 1)) ls
             = rw (no-rows, one-term-less, ← u) (term-passes n (64 - (k + 1)) (1 + m + k) s p g) in
@@ -168,14 +168,14 @@ module _ {s : List ℕ} {m n k p : ℕ} {x : Input} (r : Past s m n m k p x) whe
             }
 
   -- nothing is left
-  same-contents : (rows terms : List TextLine) → length rows ≡ m → length terms ≡ k → Held m n x rows terms → contentsOf m n (rows ++ terms) ≡ read (problemIn x) (formulaIn x)
+  same-contents : (rows terms : List TextLine) → length rows ≡ m → length terms ≡ k → LinesHeld m n x rows terms → contentsOf m n (rows ++ terms) ≡ read (problemIn x) (formulaIn x)
   unfolding contentsOf
   same-contents rows terms h l y =
       let a = rw h at (y .moduli) in
       let b = rw h at (y .matrix) in
       rw (take-at rows terms m h, drop-at rows terms m h, y .m-is, y .n-is, y .terms-are, a, b, y .coefficients, y .exponents)
 
-  pub end-holds : length s ≤ p → Holds x (readingOf (linesOf s))
+  pub end-holds : length s ≤ p → InputHolds x (readingOf (linesOf s))
   unfolding linesOf firstBad
   end-holds l =
       let e : drop p s ≡ [] = drop-of-length-le s l in

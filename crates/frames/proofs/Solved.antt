@@ -16,8 +16,8 @@ use Rattle.rules.specs.Stages.{run}
 use Rattle.rules.specs.Formulas.{d, terms}
 use Rattle.rules.specs.Calls.{Verdict, taken, refused, translateVerdict, buildVerdict, problemFits, formulaFits, contentsH, contentsV, contentsW, translatedExponents, Built, built, buildOf, Translated, translatedTo, translateOf}
 use Rattle.rules.specs.Frames.{rowLines, termLines, sizesLine, printed, answered, refusalLine}
-use Rattle.scaling.specs.Answers.{Builds}
-use Rattle.formulas.specs.Answers.{Translates}
+use Rattle.scaling.specs.BuildPromise.{Builds}
+use Rattle.formulas.specs.FormulaPromises.{Translates}
 use Rattle.theory.proofs.Grid.{length-grid}
 use Rattle.theory.proofs.Refusals.{build-taken, translate-not-0}
 use Rattle.scaling.specs.declared.BuildAnswer.{BuildAnswer}
@@ -42,7 +42,7 @@ module _ (x : Input) (z : Sized x) where
         let e : translateOf (problemIn x) (formulaIn x) kept₀ translated₀
         ≡ translatedTo (problemIn x) (formulaIn x) kept₀ translated₀ (translateVerdict (problemIn x) (formulaIn x) true true)
         = ap₂ (λ (i o : Bool). translatedTo (problemIn x) (formulaIn x) kept₀ translated₀ (translateVerdict (problemIn x) (formulaIn x) i o)) inputs outputs in
-        subst (λ (b : Translated). Translates b t kept translated) e h
+        subst (λ (b : Translated ℤ). Translates b t kept translated) e h
 
     pub refused-text : (t .number ≡ 0 → ⊥) → refusalLine (t .number) (t .place) ≡ answered (problemIn x) (formulaIn x) (translateVerdict (problemIn x) (formulaIn x) true true)
     refused-text n = go (translateVerdict (problemIn x) (formulaIn x) true true) translation-is
@@ -85,7 +85,7 @@ module _ (x : Input) (z : Sized x) where
         let e : buildOf (problemIn x) h₀ v₀ w₀ ≡ built (problemIn x) h₀ v₀ w₀ taken
         = ap₂ (λ (i o : Bool). built (problemIn x) h₀ v₀ w₀ (buildVerdict (problemIn x) i o)) (problem-fits x z) outputs
         ∙ ap (built (problemIn x) h₀ v₀ w₀) (build-taken (problemIn x) true true (formulaIn x) (t .verdict)) in
-        subst (λ (r : Built). Builds r b h v w) e y
+        subst (λ (r : Built ℤ). Builds r b h v w) e y
 
     translated-length : length (translatedExponents (problemIn x) (formulaIn x)) ≡ terms (formulaIn x) * d (problemIn x) (run (problemIn x))
     unfolding translatedExponents

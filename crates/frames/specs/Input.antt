@@ -35,9 +35,9 @@ pub record Sized (x : Input) : Type 0 where
   pub room-exponents : length (x .exponents) ≡ 1024
 
 -- what was read is what the lines say
-pub data Holds (x : Input) : Reading → Type 0 where
-  refuses : x .number ≢ 0 → Holds x (unread (x .number) (x .place))
-  takes : Sized x → Holds x (read (problemIn x) (formulaIn x))
+pub data InputHolds (x : Input) : Reading → Type 0 where
+  refuses : x .number ≢ 0 → InputHolds x (unread (x .number) (x .place))
+  takes : Sized x → InputHolds x (read (problemIn x) (formulaIn x))
 
 -- ---- line by line
 unfoldable pub empty : (number place m n : ℕ) → Input

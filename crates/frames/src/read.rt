@@ -7,7 +7,7 @@ ghost use lib.Seq.{paste};
 ghost use Rattle.rules.specs.Limits.{sizesInRange};
 ghost use Rattle.rules.specs.Bytes.{shorts};
 ghost use Rattle.rules.specs.Frames.{allDigits, unhex, linesOf, readingOf};
-ghost use Rattle.frames.specs.Input.{empty, withRow, withTerm, RowAsks, TermAsks, Holds};
+ghost use Rattle.frames.specs.Input.{empty, withRow, withTerm, RowAsks, TermAsks, InputHolds};
 use crate::line::byte;
 use crate::line::long;
 use crate::line::short;
@@ -120,7 +120,7 @@ fn sizes_in_range(m: usize, n: usize) -> bool
 
 // What the input's lines say.
 pub fn read(text: &[u8]) -> Input
-    ensures { λ r. ⌜ Holds r (readingOf (linesOf (now (text .entry)))) ⌝ }
+    ensures { λ r. ⌜ InputHolds r (readingOf (linesOf (now (text .entry)))) ⌝ }
 {
     if !starts_frame(text, 0, 1, 6) {
         return Input::new(10, 0, 0, 0);

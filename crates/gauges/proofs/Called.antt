@@ -1,6 +1,6 @@
 -- The call by the build that it makes. A refusal of the build is one of the call, but for a count other than n, which stands between 1 and the others;
 -- and V holds the groups.
-use mathlib.Core.Path.{_≡_, refl, sym, ap, ap₂, _∙_, subst}
+use mathlib.Core.Path.{_≡_, refl, sym, ap, ap₂, _∙_}
 use mathlib.Core.Logic.{_≢_}
 use mathlib.Core.Bool.{Bool, true, false, _&&_}
 use mathlib.Core.List.{List, [], _∷_, _++_}
@@ -9,18 +9,17 @@ use native.Mathlib.Nat.{add-mul, suc-mul, mul-le-mul}
 use native.Mathlib.Omega.{arith}
 use borrow.Author.Tests.{eq-eqb, ne-eqb}
 use lib.Arith.{digits-lt}
-use lib.Dec.{leb, eqb}
+use lib.Dec.{eqb}
 use lib.ListN.{length}
 use lib.IntN.{ℤ}
 use Rattle.whole.specs.Lists.{nth}
-use Rattle.rules.specs.Limits.{sizesInRange, roomH, roomV, roomW}
+use Rattle.rules.specs.Limits.{sizesInRange}
 use Rattle.rules.specs.Problem.{Problem, WellFormed, s, N}
 use Rattle.rules.specs.Stages.{run, U}
 use Rattle.rules.specs.Formulas.{d, group}
 use Rattle.rules.specs.Calls.{Check, Verdict, taken, refused, verdict, unless, problemFits, moduliCheck, entriesCheck, rangeCheck, inputsCheck, outputsCheck}
-use Rattle.rules.specs.Calls.{buildVerdict, buildOf, built, contentsV}
+use Rattle.rules.specs.Calls.{built, contentsV}
 use Rattle.rules.specs.Gauges.{Readings, reading, ownChecks, gaugeChecks, nought, refusal, gaugedBy, gaugeOf}
-use Rattle.theory.proofs.Accepted.{build-accepted}
 use Rattle.theory.proofs.Refusals.{goes-on, stays, never-given}
 use Rattle.theory.proofs.Grid.{table-filled}
 use Rattle.theory.proofs.Sizes.{N-le-24}
@@ -28,10 +27,10 @@ use Rattle.theory.proofs.Run.{run-right}
 use Rattle.theory.proofs.Gauges.{carries-nought, own-same}
 use Rattle.scaling.specs.declared.BuildAnswer.{BuildAnswer}
 use Rattle.checks.specs.Checks.{Says, takes, refuses}
-use Rattle.scaling.specs.Answers.{Builds}
+use Rattle.scaling.specs.BuildPromise.{Builds}
 use Rattle.scaling.proofs.Called.{Called, build-says, build-taken, build-well-formed}
 use Rattle.checks.proofs.Verdicts.{says-taken, says-refused}
-use Rattle.gauges.specs.Held.{column, Table}
+use Rattle.gauges.specs.Gauging.{column, Table}
 
 -- ---- two verdicts: of a build with room enough, and of a call that also asks for the count; `own` are its later checks
 abbrev ofBuild : (sizes fits : Bool) → List Check → Verdict

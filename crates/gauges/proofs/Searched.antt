@@ -5,7 +5,7 @@ use Prim.Native.Nat.{ℕ, _<_}
 use native.Mathlib.Omega.{arith}
 use Rattle.rules.specs.Search.{none, first}
 use Rattle.theory.proofs.Loops.{first-hit}
-use Rattle.gauges.specs.Held.{FirstOf}
+use Rattle.gauges.specs.Gauging.{FirstOf}
 
 module _ (test : ℕ → Bool) (n j : ℕ) (before : first test 0 j ≡ none) where
   pub found-here : j < n → test j ≡ true → FirstOf test n j

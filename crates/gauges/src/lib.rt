@@ -4,7 +4,7 @@ ghost use Prim.Native.Nat.{_≤_};
 ghost use Rattle.rules.specs.Calls.{verdict};
 ghost use Rattle.rules.specs.Gauges.{read, nought, refusal, ownChecks, gaugedBy, gaugeOf};
 ghost use Rattle.checks.specs.Checks.{given};
-ghost use Rattle.gauges.specs.Held.{column, Table, told, setOf};
+ghost use Rattle.gauges.specs.Gauging.{column, Table, told, setOf};
 use checks::ROOM_H;
 use checks::ROOM_V;
 use checks::ROOM_W;

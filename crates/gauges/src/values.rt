@@ -5,8 +5,8 @@ ghost use Prim.Native.Nat.{_≤_};
 ghost use lib.Ieee.Positive.{positive};
 ghost use Rattle.rules.specs.Limits.{powerInRange};
 ghost use Rattle.rules.specs.Gauges.{read, after, operate, units, groupValue, isOut};
-ghost use Rattle.scaling.specs.Flat.{Within};
-ghost use Rattle.gauges.specs.Held.{entries, FirstOf};
+ghost use Rattle.scaling.specs.Strided.{Within};
+ghost use Rattle.gauges.specs.Gauging.{entries, FirstOf};
 
 // Whether x is finite and above zero: a NaN, an infinity, a zero and what is below zero are not.
 fn good(x: f64) -> bool

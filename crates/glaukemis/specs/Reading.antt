@@ -21,7 +21,7 @@ marked (pos k) len bytes = bytes
 
 -- the bytes held stand at the start of a buffer; the reading stopped at the end of the input, at a failed read or at a full buffer,
 -- and the program refuses what a failed read left
-pub record Holds (bytes : List ℕ) (x : Held) : Type 0 where
+pub record HeldBytes (bytes : List ℕ) (x : Held) : Type 0 where
   pub inside : x .len ≤ length bytes
   pub full : x .more ≡ true → x .len ≡ length bytes
   pub refused : x .broken ≡ true → Refused (take (x .len) bytes)

@@ -3,7 +3,7 @@ ghost use mathlib.Core.Path.{_≡_};
 ghost use Prim.Native.Nat.{_-_, _<_, _≤_};
 ghost use lib.ListN.{length, take};
 ghost use Rattle.libc.specs.Io.{Moved};
-ghost use Rattle.glaukemis.specs.Reading.{told, marked, Holds};
+ghost use Rattle.glaukemis.specs.Reading.{told, marked, HeldBytes};
 
 // How far the reading is: `len` bytes are held, and whether more may come. Where it is broken a read has failed, and the
 // last byte held is a blank.
@@ -46,7 +46,7 @@ fn heard(got: isize, buf: &mut [u8], len: usize) -> Held
 
 // Reads until the input ends, a read fails or buf is full.
 pub fn read(fd: i32, buf: &mut [u8]) -> Held
-    ensures { λ r. ⌜ Holds (now (buf .exit)) r ⌝ }
+    ensures { λ r. ⌜ HeldBytes (now (buf .exit)) r ⌝ }
 {
     let mut len = 0;
     while len < buf.len() {

@@ -14,7 +14,7 @@ use Rattle.rules.specs.Search.{first, last, smallest, total, each}
 use Rattle.rules.specs.Problem.{Problem, modulusRowsFrom, columns}
 use Rattle.rules.specs.Steps.{State, get, getW, step, swapStep, negateStep, addStep, reorder, startLines}
 use Rattle.rules.specs.Stages.{size, next, repeatA, eliminate, reduce, bring, makePositive, settle, row, rows, stage1, stage2, stage3, runOn, run}
-use Rattle.rules.specs.Formulas.{Formula, rowTimes, remainder, weight, isFree, kOf, kAnd, d, translated, group, passes}
+use Rattle.rules.specs.Formulas.{Formula, rowTimes, remainder, weight, isFree, kOf, kThenV, d, translated, group, passes}
 use Rattle.rules.specs.Calls.{Verdict, taken, refused, firstOut, buildVerdict, weighVerdict, translateVerdict, problemFits, formulaFits, contentsH, contentsV, contentsW, weights, translatedExponents, buildOf, weighOf, translateOf}
 use Rattle.rules.specs.Bytes.{short, long, shorts, longs, bytesOf}
 use Rattle.rules.specs.Bench.{benchBuildVerdict}
@@ -181,7 +181,7 @@ pub record Starred : Type 0 where
   pub group9 : groupOf problem9 0 ≡ pos 1 ∷ pos 1000 ∷ pos 1_000_000 ∷ pos 1_000_000_000 ∷ []
 
 pub starred : Starred
-unfolding bytes sum first last smallest total each modulusRowsFrom columns get getW step swapStep negateStep addStep reorder startLines size next repeatA eliminate reduce bring makePositive settle row rows stage1 stage2 stage3 runOn run rowTimes remainder weight isFree kOf kAnd translated group passes firstOut buildVerdict translateVerdict contentsH contentsV contentsW translatedExponents short long shorts longs bytesOf linesOf digit unhex frameOf isFrame rowModulus rowEntries termCoefficient termExponents firstBad contentsOf sized readingOf digitOf hex frame refusalLine sizesLine rowLines termLines printed program
+unfolding bytes sum first last smallest total each modulusRowsFrom columns get getW step swapStep negateStep addStep reorder startLines size next repeatA eliminate reduce bring makePositive settle row rows stage1 stage2 stage3 runOn run rowTimes remainder weight isFree kOf kThenV translated group passes firstOut buildVerdict translateVerdict contentsH contentsV contentsW translatedExponents short long shorts longs bytesOf linesOf digit unhex frameOf isFrame rowModulus rowEntries termCoefficient termExponents firstBad contentsOf sized readingOf digitOf hex frame refusalLine sizesLine rowLines termLines printed program
 starred = record {
   accepted1 = refl;
   r1 = refl;
@@ -312,7 +312,7 @@ pub record Traps : Type 0 where
   pub torn-output : benchBuildVerdict 1 1 (255 ∷ 255 ∷ 255 ∷ 251 ∷ []) (replicate 4 0) (replicate 769 0) (replicate 2304 0) (replicate 2304 0) ≡ refused 3 0
 
 pub traps : Traps
-unfolding bytes times sum first last smallest total each modulusRowsFrom columns get getW step swapStep negateStep addStep reorder startLines size next repeatA eliminate reduce bring makePositive settle row rows stage1 stage2 stage3 runOn run rowTimes remainder weight isFree kOf kAnd translated group passes firstOut buildVerdict weighVerdict translateVerdict contentsH contentsV contentsW weights translatedExponents buildOf weighOf translateOf short long shorts longs bytesOf benchBuildVerdict linesOf digit unhex frameOf isFrame rowModulus rowEntries termCoefficient termExponents firstBad contentsOf sized readingOf digitOf hex frame refusalLine sizesLine rowLines termLines printed program
+unfolding bytes times sum first last smallest total each modulusRowsFrom columns get getW step swapStep negateStep addStep reorder startLines size next repeatA eliminate reduce bring makePositive settle row rows stage1 stage2 stage3 runOn run rowTimes remainder weight isFree kOf kThenV translated group passes firstOut buildVerdict weighVerdict translateVerdict contentsH contentsV contentsW weights translatedExponents buildOf weighOf translateOf short long shorts longs bytesOf benchBuildVerdict linesOf digit unhex frameOf isFrame rowModulus rowEntries termCoefficient termExponents firstBad contentsOf sized readingOf digitOf hex frame refusalLine sizesLine rowLines termLines printed program
 traps = record {
   floored = refl;
   upward = refl;

@@ -8,7 +8,7 @@ use lib.Dec.{leb}
 use Rattle.rules.specs.Limits.{roomH, roomV, roomW, roomCoefficients, roomExponents}
 use Rattle.rules.specs.Problem.{Problem}
 use Rattle.rules.specs.Formulas.{Formula}
-use Rattle.rules.specs.Calls.{Verdict, buildVerdict, translateVerdict, problemFits, formulaFits, contentsH, contentsV, contentsW, translatedExponents, lentAfter, BuildAnswer, buildReply, TranslateAnswer, translateReply}
+use Rattle.rules.specs.Calls.{Verdict, buildVerdict, translateVerdict, problemFits, formulaFits, Built, builtIn, Translated, translatedIn}
 use Rattle.rules.specs.Bytes.{bytesOf, wholeNumbers, numbersIn, numbersOf}
 
 -- the problem and the formula that the lent bytes say
@@ -28,22 +28,8 @@ benchBuildVerdict m n matrix moduli h v w =
     let P : Problem = problemOf m n matrix moduli in
     buildVerdict P (wholeNumbers matrix && wholeNumbers moduli && problemFits P) (hasRoom roomH h && hasRoom roomV v && hasRoom roomW w)
 
-pub record BenchBuilt : Type 0 where
-  pub answer : BuildAnswer
-  pub h : List ℕ
-  pub v : List ℕ
-  pub w : List ℕ
-
-unfoldable pub benchBuildOf : (m n : ℕ) (matrix moduli h v w : List ℕ) → BenchBuilt
-benchBuildOf m n matrix moduli h v w =
-    let P : Problem = problemOf m n matrix moduli in
-    let x : Verdict = benchBuildVerdict m n matrix moduli h v w in
-    record {
-      answer = buildReply P x;
-      h = lentAfter x (bytesOf (contentsH P)) h;
-      v = lentAfter x (bytesOf (contentsV P)) v;
-      w = lentAfter x (bytesOf (contentsW P)) w;
-    }
+unfoldable pub benchBuildOf : (m n : ℕ) (matrix moduli h v w : List ℕ) → Built ℕ
+benchBuildOf m n matrix moduli h v w = builtIn bytesOf (problemOf m n matrix moduli) h v w (benchBuildVerdict m n matrix moduli h v w)
 
 -- ---- glaukemis_translate; the last two are the outputs
 unfoldable pub benchTranslateVerdict : (m n : ℕ) (matrix moduli coefficients exponents outC outE : List ℕ) → Verdict
@@ -54,18 +40,6 @@ benchTranslateVerdict m n matrix moduli cs es outC outE =
     (wholeNumbers matrix && wholeNumbers moduli && wholeNumbers cs && wholeNumbers es && problemFits P && formulaFits P f)
     (hasRoom roomCoefficients outC && hasRoom roomExponents outE)
 
-pub record BenchTranslated : Type 0 where
-  pub answer : TranslateAnswer
-  pub coefficients : List ℕ
-  pub exponents : List ℕ
-
-unfoldable pub benchTranslateOf : (m n : ℕ) (matrix moduli coefficients exponents outC outE : List ℕ) → BenchTranslated
+unfoldable pub benchTranslateOf : (m n : ℕ) (matrix moduli coefficients exponents outC outE : List ℕ) → Translated ℕ
 benchTranslateOf m n matrix moduli cs es outC outE =
-    let P : Problem = problemOf m n matrix moduli in
-    let f : Formula = formulaOf cs es in
-    let x : Verdict = benchTranslateVerdict m n matrix moduli cs es outC outE in
-    record {
-      answer = translateReply P x;
-      coefficients = lentAfter x (bytesOf (f .coefficients)) outC;
-      exponents = lentAfter x (bytesOf (translatedExponents P f)) outE;
-    }
+    translatedIn bytesOf (problemOf m n matrix moduli) (formulaOf cs es) outC outE (benchTranslateVerdict m n matrix moduli cs es outC outE)

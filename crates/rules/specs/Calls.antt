@@ -145,21 +145,25 @@ abbrev pub lentAfter : {A : Type 0} → Verdict → (contents lent : List A) →
 lentAfter (refused number place) contents lent = lent
 lentAfter taken contents lent = filled contents lent
 
-pub record Built : Type 0 where
+-- A is a number, or in Bench a byte
+pub record Built (A : Type 0) : Type 0 where
   pub answer : BuildAnswer
-  pub h : List ℤ
-  pub v : List ℤ
-  pub w : List ℤ
+  pub h : List A
+  pub v : List A
+  pub w : List A
 
-abbrev pub built : Problem → (h v w : List ℤ) → Verdict → Built
-built P h v w x = record {
+abbrev pub builtIn : {A : Type 0} (write : List ℤ → List A) → Problem → (h v w : List A) → Verdict → Built A
+builtIn write P h v w x = record {
   answer = buildReply P x;
-  h = lentAfter x (contentsH P) h;
-  v = lentAfter x (contentsV P) v;
-  w = lentAfter x (contentsW P) w;
+  h = lentAfter x (write (contentsH P)) h;
+  v = lentAfter x (write (contentsV P)) v;
+  w = lentAfter x (write (contentsW P)) w;
 }
 
-unfoldable pub buildOf : Problem → (h v w : List ℤ) → Built
+abbrev pub built : Problem → (h v w : List ℤ) → Verdict → Built ℤ
+built = builtIn (λ xs. xs)
+
+unfoldable pub buildOf : Problem → (h v w : List ℤ) → Built ℤ
 buildOf P h v w = built P h v w (buildVerdict P (problemFits P) (leb roomH (length h) && leb roomV (length v) && leb roomW (length w)))
 
 pub record WeighAnswer : Type 0 where
@@ -189,20 +193,23 @@ abbrev pub translateReply : Problem → Verdict → TranslateAnswer
 translateReply P (refused number place) = record { number = number; place = place; d = 0 }
 translateReply P taken = record { number = 0; place = 0; d = d P (run P) }
 
-pub record Translated : Type 0 where
+pub record Translated (A : Type 0) : Type 0 where
   pub answer : TranslateAnswer
-  pub coefficients : List ℤ
-  pub exponents : List ℤ
+  pub coefficients : List A
+  pub exponents : List A
 
 -- "The coefficient is kept."
-abbrev pub translatedTo : Problem → Formula → (coefficients exponents : List ℤ) → Verdict → Translated
-translatedTo P f cs es x = record {
+abbrev pub translatedIn : {A : Type 0} (write : List ℤ → List A) → Problem → Formula → (coefficients exponents : List A) → Verdict → Translated A
+translatedIn write P f cs es x = record {
   answer = translateReply P x;
-  coefficients = lentAfter x (f .coefficients) cs;
-  exponents = lentAfter x (translatedExponents P f) es;
+  coefficients = lentAfter x (write (f .coefficients)) cs;
+  exponents = lentAfter x (write (translatedExponents P f)) es;
 }
 
-unfoldable pub translateOf : Problem → Formula → (coefficients exponents : List ℤ) → Translated
+abbrev pub translatedTo : Problem → Formula → (coefficients exponents : List ℤ) → Verdict → Translated ℤ
+translatedTo = translatedIn (λ xs. xs)
+
+unfoldable pub translateOf : Problem → Formula → (coefficients exponents : List ℤ) → Translated ℤ
 translateOf P f cs es =
     translatedTo P f cs es
     (translateVerdict P f (problemFits P && formulaFits P f) (leb roomCoefficients (length cs) && leb roomExponents (length es)))

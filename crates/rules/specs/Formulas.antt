@@ -45,8 +45,8 @@ kOf P v c =
     quotZ (rowTimes P v i) (modulus P i)
 
 -- "k followed by v"
-unfoldable pub kAnd : Problem → (v : ℕ → ℤ) → (c : ℕ) → ℤ
-kAnd P v c = elim (ltb c (s P)) [ true ↦ kOf P v c | false ↦ v (c - s P) ]
+unfoldable pub kThenV : Problem → (v : ℕ → ℤ) → (c : ℕ) → ℤ
+kThenV P v c = elim (ltb c (s P)) [ true ↦ kOf P v c | false ↦ v (c - s P) ]
 
 -- "the last d = N - r columns"
 abbrev pub d : Problem → Run → ℕ
@@ -54,7 +54,7 @@ d P u = N P - u .rank
 
 -- "The translated exponents are the last d rows of W times k followed by v": that of group g
 unfoldable pub translated : Problem → Run → (v : ℕ → ℤ) → (g : ℕ) → ℤ
-translated P u v g = sum (N P) (λ c. W u (u .rank + g) c *ℤ kAnd P v c)
+translated P u v g = sum (N P) (λ c. W u (u .rank + g) c *ℤ kThenV P v c)
 
 -- "The groups are the last d columns of V, cut to the quantity rows": the exponent of quantity j in group g
 unfoldable pub group : Problem → Run → (g j : ℕ) → ℤ

@@ -11,7 +11,7 @@ use Rattle.theory.proofs.Search.{In, smallest-cong}
 use Rattle.theory.proofs.Loops.{rows-end, rows-step, row-pass}
 use Rattle.theory.proofs.Flag.{rows-over}
 use Rattle.scaling.specs.declared.work.Work.{Work}
-use Rattle.scaling.specs.Join.{Fine, tableFor, entriesFor, heightFor}
+use Rattle.scaling.specs.WorkState.{Fine, tableFor, entriesFor, heightFor}
 use Rattle.scaling.specs.Scan.{sizes}
 use Rattle.scaling.specs.Rows.{sizesIn, perRow, progress, RowBegun, RowDone, RowsBegun, RowsDone}
 use Rattle.theory.proofs.Search.{smallest-there, smallest-nowhere}

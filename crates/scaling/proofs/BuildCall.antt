@@ -15,10 +15,10 @@ use Rattle.rules.specs.Calls.{verdict, rangeCheck, problemFits, buildVerdict, b
 use Rattle.whole.proofs.Tests.{and-both}
 use Rattle.checks.specs.declared.Refusal.{Refusal}
 use Rattle.checks.specs.Checks.{given, TellsTo5}
-use Rattle.checks.specs.Moduli.{problemOf}
+use Rattle.checks.specs.Moduli.{lentProblem}
 use Rattle.checks.proofs.Verdicts.{Passed, to5, problem-refused, problem-passed, past-5}
 use Rattle.scaling.specs.declared.BuildAnswer.{BuildAnswer}
-use Rattle.scaling.specs.Answers.{Builds, RoomToBuild}
+use Rattle.scaling.specs.BuildPromise.{Builds, RoomToBuild}
 
 -- the outputs' lengths, as the code takes them together
 abbrev pub roomy : (h v w : List ℤ) → Bool
@@ -53,7 +53,7 @@ module _ {m n : ℕ} {matrix moduli h v w : List ℤ} {outputs : Bool} {c : Refu
     passed : Passed m n matrix moduli true outputs
     passed = problem-passed (k .tells) e
 
-    pub well-formed : WellFormed (problemOf n matrix moduli)
+    pub well-formed : WellFormed (lentProblem n matrix moduli)
     well-formed = passed .wellFormed
 
     pub room-to-build : RoomToBuild h v w
@@ -63,6 +63,6 @@ module _ {m n : ℕ} {matrix moduli h v w : List ℤ} {outputs : Bool} {c : Refu
         record { h = leb-true roomH (length h) (all .0); v = leb-true roomV (length v) (rest .0); w = leb-true roomW (length w) (rest .1) }
 
     pub build-passed : {r : BuildAnswer} {h₁ v₁ w₁ : List ℤ}
-        → Builds (built (problemOf n matrix moduli) h v w (verdict (rangeCheck (run (problemOf n matrix moduli)) ∷ []))) r h₁ v₁ w₁
+        → Builds (built (lentProblem n matrix moduli) h v w (verdict (rangeCheck (run (lentProblem n matrix moduli)) ∷ []))) r h₁ v₁ w₁
         → Builds (buildOf P h v w) r h₁ v₁ w₁
     build-passed b = rw (build-is, past-5 (k .tells) e (rangeCheck (run P) ∷ []), passed .same) b

@@ -16,12 +16,11 @@ use Rattle.rules.specs.Steps.{State, get}
 use Rattle.rules.specs.Stages.{run, W}
 use Rattle.rules.specs.Calls.{taken, refused, verdict, rangeCheck, grid, contentsH, contentsV, contentsW, filled, built}
 use Rattle.theory.proofs.Run.{run-right}
-use Rattle.theory.proofs.Groups.{d-le-n}
 use Rattle.theory.proofs.Grid.{table, grid-cong, grid-of-table}
 use Rattle.scaling.specs.declared.run.Outcome.{Outcome}
-use Rattle.scaling.specs.Join.{stateOf, tableFor, heightFor, entriesFor}
+use Rattle.scaling.specs.WorkState.{stateOf, tableFor, heightFor, entriesFor}
 use Rattle.scaling.specs.Problem.{Ran}
-use Rattle.scaling.specs.Answers.{Builds}
+use Rattle.scaling.specs.BuildPromise.{Builds}
 use Rattle.scaling.proofs.MatrixC.{area, square}
 use Rattle.scaling.proofs.State.{Long, state-get, state-getW}
 

@@ -16,7 +16,7 @@ use Rattle.theory.proofs.Refusals.{build-not-0}
 use Rattle.checks.specs.Checks.{Says, takes, refuses}
 use Rattle.checks.proofs.Verdicts.{says-taken}
 use Rattle.scaling.specs.declared.BuildAnswer.{BuildAnswer}
-use Rattle.scaling.specs.Answers.{Builds}
+use Rattle.scaling.specs.BuildPromise.{Builds}
 
 abbrev pub ofBuild : Problem → Verdict
 ofBuild P = verdict (checksTo5 P (problemFits P) true ++ rangeCheck (run P) ∷ [])

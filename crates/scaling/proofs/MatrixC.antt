@@ -17,7 +17,7 @@ use Rattle.rules.specs.Problem.{Problem, modulus, s, N, C, WellFormed}
 use Rattle.theory.proofs.ModulusRows.{modulusRow}
 use Rattle.theory.proofs.Sizes.{N-le-24}
 use Rattle.theory.proofs.Shape.{modulus-column-at, modulus-column-else, quantity-column-at}
-use Rattle.scaling.specs.Flat.{keep}
+use Rattle.scaling.specs.Strided.{keep}
 use Rattle.scaling.specs.Problem.{InC, HoldsC}
 use Rattle.scaling.proofs.Values.{kept}
 use Rattle.scaling.proofs.Filling.{nth-filled, nth-unfilled, length-front}

@@ -8,7 +8,7 @@ use native.Mathlib.Nat.{add-mul-mod-self-right, add-mul-div-right}
 use native.Mathlib.Omega.{arith}
 use Rattle.whole.proofs.Tests.{Test, pass, fail, lt?}
 use Rattle.whole.proofs.Order.{row-within}
-use Rattle.scaling.specs.Flat.{rotateFrom}
+use Rattle.scaling.specs.Strided.{rotateFrom}
 
 pub cell : {j n k m : ℕ} → j < n → k < m → j + k * n < m * n
 cell {j} {n} {k} {m} hj hk = omega (arith, row-within k n m n hk (le-refl n))

@@ -17,10 +17,10 @@ use Rattle.rules.specs.Steps.{State, get, swapStep, negateStep, addStep}
 use Rattle.rules.specs.Stages.{size, bring, makePositive, reduce}
 use Rattle.theory.proofs.Entries.{add-off}
 use Rattle.scaling.specs.declared.work.Work.{Work}
-use Rattle.scaling.specs.Join.{stateOf, Fine, Tracks, Same, tableFor}
+use Rattle.scaling.specs.WorkState.{stateOf, Fine, Tracks, Same, tableFor}
 use Rattle.scaling.specs.Scan.{Divisible}
 use Rattle.scaling.specs.Rows.{sizesIn, Pivot}
-use Rattle.scaling.proofs.TableRow.{RowIn, size-in, size-small}
+use Rattle.scaling.proofs.TableRow.{RowOfTable, size-in, size-small}
 use Rattle.scaling.proofs.State.{state-steps}
 use Rattle.scaling.proofs.Tracking.{add-steps, same-tracks}
 
@@ -43,7 +43,7 @@ pub bring-same : {m n : ℕ} {s : Work} → Fine m n s → (p b : ℕ) → p ≡
 bring-same {m} {n} {s} f p b e = record { fine = f; same = rw e (sym (bring-not b (stateOf m n s))) }
 
 -- ---- its sign; xs is the table's list
-module _ {stage2 : Bool} {m n row : ℕ} {s : Work} {xs : List ℤ} (r : RowIn stage2 m n row s xs) where
+module _ {stage2 : Bool} {m n row : ℕ} {s : Work} {xs : List ℤ} (r : RowOfTable stage2 m n row s xs) where
   module _ (b : ℕ) (h : b < n) where
     sign-is : (x : Bool) → ltZ (nth xs (b + row * n)) (pos 0) ≡ x
         → makePositive (tableFor stage2) row b (stateOf m n s) ≡ elim x [ true ↦ negateStep b (stateOf m n s) | false ↦ stateOf m n s ]

@@ -19,10 +19,10 @@ use Rattle.theory.proofs.Eliminate.{Adds, total-falls, eliminate-done, eliminat
 use Rattle.theory.proofs.Repetition.{adds-is, quotient-small, pivot-after}
 use Rattle.theory.proofs.Flag.{eliminate-over}
 use Rattle.scaling.specs.declared.work.Work.{Work}
-use Rattle.scaling.specs.Join.{stateOf, Fine, Two, Tracks, most, tableFor, heightFor}
+use Rattle.scaling.specs.WorkState.{stateOf, Fine, Two, Tracks, most, tableFor, heightFor}
 use Rattle.scaling.specs.Scan.{Other, Divisible}
 use Rattle.scaling.specs.Rows.{sizesIn, left, Ready, Eliminated}
-use Rattle.scaling.proofs.TableRow.{RowIn, size-in, size-small}
+use Rattle.scaling.proofs.TableRow.{RowOfTable, size-in, size-small}
 use Rattle.scaling.proofs.State.{state-steps}
 use Rattle.scaling.proofs.Tracking.{add-steps, over-tracks, same-tracks}
 use Rattle.scaling.proofs.Searched.{none-left, can-divide, one-more}
@@ -67,7 +67,7 @@ module _ {stage2 : Bool} {m n row lo a p j : ℕ} {q : ℤ} {s : Work} (f : Fine
     falls : w .over ≡ false → left stage2 m n w row lo a < left stage2 m n s row lo a
     falls o = omega (arith, fewer, ap (λ (u : State). total (size (tableFor stage2) u row) lo a) (tr .same o))
 
-    module _ {xs : List ℤ} (r : RowIn stage2 m n row w xs) {x k : ℕ} (ko : Other xs (row * n) x lo a k)
+    module _ {xs : List ℤ} (r : RowOfTable stage2 m n row w xs) {x k : ℕ} (ko : Other xs (row * n) x lo a k)
         (xe : x ≡ cond (isZero (nth xs (j + row * n))) p j) where
       next-p : w .over ≡ false → smallest (sizesIn stage2 m n w row) lo a ≡ found x
       next-p o = ap (λ (u : State). smallest (size (tableFor stage2) u row) lo a) (tr .same o)
@@ -125,7 +125,7 @@ pub record Begun (stage2 : Bool) (m n row lo a p : ℕ) (s : Work) : Type 0 wher
   pub room : s .steps + left stage2 m n s row lo a ≤ most
 
 module _ {stage2 : Bool} {m n row lo a p : ℕ} {s : Work} (f : Fine m n s) (b : Begun stage2 m n row lo a p s)
-    {xs : List ℤ} (r : RowIn stage2 m n row s xs) {k : ℕ} (ko : Other xs (row * n) p lo a k) where
+    {xs : List ℤ} (r : RowOfTable stage2 m n row s xs) {k : ℕ} (ko : Other xs (row * n) p lo a k) where
   pub begun-divides : k ≢ a → Divisible xs (row * n) p k
   begun-divides d = can-divide r ko (b .a-in) (b .smallest) d
 

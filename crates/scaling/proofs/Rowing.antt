@@ -15,10 +15,10 @@ use Rattle.theory.proofs.Search.{In, is-other, Smallest, total-le, first-there,
 use Rattle.theory.proofs.Loops.{Worked, row-works}
 use Rattle.theory.proofs.Flag.{settle-over}
 use Rattle.scaling.specs.declared.work.Work.{Work}
-use Rattle.scaling.specs.Join.{stateOf, Fine, tableFor}
+use Rattle.scaling.specs.WorkState.{stateOf, Fine, tableFor}
 use Rattle.scaling.specs.Scan.{sizes, Other}
 use Rattle.scaling.specs.Rows.{sizesIn, left, progress, Eliminated, Pivot, RowBegun, RowDone}
-use Rattle.scaling.proofs.TableRow.{RowIn, size-in, size-small}
+use Rattle.scaling.proofs.TableRow.{RowOfTable, size-in, size-small}
 use Rattle.scaling.proofs.Tracking.{over-tracks}
 use Rattle.scaling.proofs.Repeating.{Begun}
 use Rattle.scaling.proofs.Settling.{Settled}
@@ -49,7 +49,7 @@ module _ {stage2 : Bool} {m n k lo a p : ℕ} {s : Work} (f : Fine m n s) (b : R
     }
 
     -- j is what the search for a column that is not zero found
-    module _ (o : w .over ≡ false) {xs : List ℤ} (r : RowIn stage2 m n k w xs) {j : ℕ} (jo : Other xs (k * n) a lo a j) where
+    module _ (o : w .over ≡ false) {xs : List ℤ} (r : RowOfTable stage2 m n k w xs) {j : ℕ} (jo : Other xs (k * n) a lo a j) where
       size-is : (c : ℕ) → c < a → size (tableFor stage2) (eliminate (tableFor stage2) lo a k (stateOf m n s)) k c ≡ sizes xs (k * n) c
       size-is c l = ap (λ (u : State). size (tableFor stage2) u k c) (sym (el .tracks .same o)) ∙ size-in r c (omega (arith, b .a-in))
 

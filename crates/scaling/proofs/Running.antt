@@ -10,7 +10,7 @@ use Rattle.rules.specs.Steps.{State, reorder, start}
 use Rattle.rules.specs.Stages.{Progress, stage1, stage2, stage3, runOn, run}
 use Rattle.theory.proofs.Flag.{stage2-over, stage3-over}
 use Rattle.scaling.specs.declared.work.Work.{Work}
-use Rattle.scaling.specs.Join.{stateOf, Fine, Tracks, Same}
+use Rattle.scaling.specs.WorkState.{stateOf, Fine, Tracks, Same}
 use Rattle.scaling.specs.Rows.{RowsBegun, RowsDone, Stage3Begun}
 use Rattle.scaling.specs.Problem.{Ran}
 

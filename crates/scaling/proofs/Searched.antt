@@ -13,18 +13,18 @@ use Rattle.rules.specs.Stages.{isOther, otherColumn, done, adds, next}
 use Rattle.theory.proofs.Search.{In, Smallest, first-cong, first-there, smallest-there}
 use Rattle.theory.proofs.Repetition.{next-adds, next-done}
 use Rattle.scaling.specs.declared.work.Work.{Work}
-use Rattle.scaling.specs.Join.{stateOf, tableFor}
+use Rattle.scaling.specs.WorkState.{stateOf, tableFor}
 use Rattle.scaling.specs.Scan.{sizes, Other, Divisible}
 use Rattle.scaling.specs.Rows.{sizesIn}
-use Rattle.scaling.proofs.TableRow.{RowIn, size-in}
+use Rattle.scaling.proofs.TableRow.{RowOfTable, size-in}
 
 -- the test reads only the columns there are
-pub other-same : {stage2 : Bool} {m n row : ℕ} {s : Work} {xs : List ℤ} → RowIn stage2 m n row s xs → (lo a p : ℕ) → a ≤ n
+pub other-same : {stage2 : Bool} {m n row : ℕ} {s : Work} {xs : List ℤ} → RowOfTable stage2 m n row s xs → (lo a p : ℕ) → a ≤ n
     → otherColumn (tableFor stage2) lo a row p (stateOf m n s) ≡ first (isOther (sizes xs (row * n)) p) lo a
 other-same {stage2} {m} {n} {row} {s} {xs} r lo a p h =
     first-cong (isOther (sizesIn stage2 m n s row) p) (isOther (sizes xs (row * n)) p) lo a (λ c i. rw (size-in r c (omega (arith, i .high))))
 
-module _ {stage2 : Bool} {m n row : ℕ} {s : Work} {xs : List ℤ} (r : RowIn stage2 m n row s xs) {lo a p k : ℕ} (ko : Other xs (row * n) p lo a k)
+module _ {stage2 : Bool} {m n row : ℕ} {s : Work} {xs : List ℤ} (r : RowOfTable stage2 m n row s xs) {lo a p k : ℕ} (ko : Other xs (row * n) p lo a k)
     (h : a ≤ n) (sm : smallest (sizesIn stage2 m n s row) lo a ≡ found p) where
   p-is : Smallest (sizesIn stage2 m n s row) lo a p
   p-is = smallest-there (sizesIn stage2 m n s row) lo a p sm

@@ -20,11 +20,11 @@ use Rattle.theory.proofs.StepLines.{count}
 use Rattle.theory.proofs.Entries.{swap-get, negate-at}
 use Rattle.theory.proofs.Flag.{reduce-over}
 use Rattle.scaling.specs.declared.work.Work.{Work}
-use Rattle.scaling.specs.Join.{stateOf, Fine, Same, Tracks, tableFor}
+use Rattle.scaling.specs.WorkState.{stateOf, Fine, Same, Tracks, tableFor}
 use Rattle.scaling.specs.Scan.{Divisors, Unreduced}
 use Rattle.scaling.specs.Rows.{sizesIn, Pivot, Apart, AllReduced}
 use Rattle.scaling.proofs.State.{state-count, state-steps, Long}
-use Rattle.scaling.proofs.TableRow.{RowIn, size-in}
+use Rattle.scaling.proofs.TableRow.{RowOfTable, size-in}
 use Rattle.scaling.proofs.Tracking.{over-tracks, same-tracks}
 use Rattle.scaling.proofs.Reducing.{bring-not, bring-swaps, Reduced, reduced-already}
 
@@ -108,7 +108,7 @@ module _ {stage2 : Bool} {m n row b : ℕ} {s : Work} where
         }
 
 -- ---- columns that are in range already
-module _ {stage2 : Bool} {m n row b : ℕ} {s : Work} {xs : List ℤ} (r : RowIn stage2 m n row s xs) (f : Fine m n s) (p : Pivot stage2 m n row b s n)
+module _ {stage2 : Bool} {m n row b : ℕ} {s : Work} {xs : List ℤ} (r : RowOfTable stage2 m n row s xs) (f : Fine m n s) (p : Pivot stage2 m n row b s n)
     {hi : ℕ} (fit : hi ≤ n) where
   pub pivot-divisors : Divisors xs (row * n) b hi
   pivot-divisors = record {

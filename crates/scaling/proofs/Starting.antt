@@ -20,7 +20,7 @@ use Rattle.theory.proofs.Start.{start-count, start-line, nth-unit, length-unit}
 use Rattle.theory.proofs.Shape.{length-columns, column-length}
 use Rattle.theory.proofs.Sizes.{N-le-24}
 use Rattle.scaling.specs.declared.work.Work.{Work}
-use Rattle.scaling.specs.Join.{pick, lineOf, Small, Same}
+use Rattle.scaling.specs.WorkState.{pick, lineOf, Small, Same}
 use Rattle.scaling.specs.Problem.{HoldsC, HoldsIdentity}
 use Rattle.scaling.proofs.MatrixC.{columns-some, C-small, place-in}
 use Rattle.scaling.proofs.State.{state-is}

@@ -13,11 +13,11 @@ use Rattle.rules.specs.Steps.{Line, State, blank, line, get, getW, values, anyB
 use Rattle.rules.specs.Stages.{size}
 use Rattle.theory.proofs.Flag.{anyBeyond-append}
 use Rattle.scaling.specs.declared.work.Work.{Work}
-use Rattle.scaling.specs.Flat.{Within}
-use Rattle.scaling.specs.Join.{lineOf, linesFrom, stateOf, Fine, tableFor, entriesFor, heightFor}
+use Rattle.scaling.specs.Strided.{Within}
+use Rattle.scaling.specs.WorkState.{lineOf, linesFrom, stateOf, Fine, tableFor, entriesFor, heightFor}
 use Rattle.scaling.specs.Scan.{sizes}
 use Rattle.scaling.proofs.Places.{cell}
-use Rattle.scaling.proofs.Picks.{pick-nth, pick-small}
+use Rattle.scaling.proofs.StridedLines.{pick-nth, pick-small}
 
 -- ---- lines
 lines-count : (m n : ℕ) (t v w : List ℤ) (i k : ℕ) → length (linesFrom m n t v w i k) ≡ k

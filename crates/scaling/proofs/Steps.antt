@@ -15,11 +15,11 @@ use Rattle.whole.proofs.Exchange.{tr, tr-first, tr-second, tr-neither}
 use Rattle.rules.specs.Steps.{Line, State, blank, anyBeyond, values, step, plus, swapStep, negated, negateStep, source, target, addStep, reorder}
 use Rattle.theory.proofs.Flag.{anyBeyond-append}
 use Rattle.scaling.specs.declared.work.Work.{Work}
-use Rattle.scaling.specs.Flat.{Added, addF, swapF, negF, rotateF}
-use Rattle.scaling.specs.Join.{pick, lineOf, stateOf, Small, Fine, Tracks, Same}
+use Rattle.scaling.specs.Strided.{Added, addF, swapF, negF, rotateF}
+use Rattle.scaling.specs.WorkState.{pick, lineOf, stateOf, Small, Fine, Tracks, Same}
 use Rattle.scaling.proofs.Places.{columns, rows}
-use Rattle.scaling.proofs.Turns.{addF-small, negF-small, swapF-small, rotateF-small}
-use Rattle.scaling.proofs.Picks.{Written, swap-lines, negate-lines, add-flag, add-lines, rotate-columns, rotate-rows}
+use Rattle.scaling.proofs.StridedContents.{addF-small, negF-small, swapF-small, rotateF-small}
+use Rattle.scaling.proofs.StridedLines.{Written, swap-lines, negate-lines, add-flag, add-lines, rotate-columns, rotate-rows}
 use Rattle.scaling.proofs.State.{Long, lineIn, state-count, state-steps, state-over, state-line, state-is, line-near, t-room, v-room, w-room, t-in, v-in, w-in}
 
 -- r is made of these arrays, this count and this flag

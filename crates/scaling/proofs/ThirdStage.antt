@@ -14,7 +14,7 @@ use Rattle.theory.proofs.Search.{last-cong}
 use Rattle.theory.proofs.Loops.{stage3-end, stage3-step}
 use Rattle.theory.proofs.Flag.{stage3-over}
 use Rattle.scaling.specs.declared.work.Work.{Work}
-use Rattle.scaling.specs.Join.{stateOf, Fine, Tracks}
+use Rattle.scaling.specs.WorkState.{stateOf, Fine, Tracks}
 use Rattle.scaling.specs.Scan.{sizes, Lowest}
 use Rattle.scaling.specs.Rows.{sizesIn, Pivot, Apart, AllReduced, Stage3Begun}
 use Rattle.theory.proofs.Search.{last-there}

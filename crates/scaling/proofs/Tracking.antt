@@ -6,7 +6,7 @@ use lib.IntN.{ℤ}
 use Rattle.whole.proofs.Tests.{true-not-false}
 use Rattle.rules.specs.Steps.{State, addStep, step}
 use Rattle.scaling.specs.declared.work.Work.{Work}
-use Rattle.scaling.specs.Join.{stateOf, Fine, Tracks}
+use Rattle.scaling.specs.WorkState.{stateOf, Fine, Tracks}
 use Rattle.scaling.proofs.State.{state-over}
 
 pub add-steps : (i j : ℕ) (q : ℤ) (u : State) → addStep i j q u .steps ≡ suc (u .steps)

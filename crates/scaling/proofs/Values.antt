@@ -11,7 +11,7 @@ use Rattle.whole.proofs.Order.{zarith, -is}
 use Rattle.whole.proofs.Signs.{less-pos, less-neg}
 use Rattle.rules.specs.Limits.{M, beyond}
 use Rattle.checks.proofs.Values.{within, not-beyond}
-use Rattle.scaling.specs.Flat.{keep}
+use Rattle.scaling.specs.Strided.{keep}
 
 -- ---- what is stored
 pub keep-is : (z : ℤ) (b : Bool) → beyond z ≡ b → keep z ≡ cond b (pos 0) z

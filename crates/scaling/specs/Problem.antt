@@ -10,7 +10,7 @@ use Rattle.whole.specs.Matrix.{δ}
 use Rattle.rules.specs.Problem.{Problem, s, N, C}
 use Rattle.rules.specs.Stages.{run}
 use Rattle.scaling.specs.declared.run.Outcome.{Outcome}
-use Rattle.scaling.specs.Join.{Tracks}
+use Rattle.scaling.specs.WorkState.{Tracks}
 
 -- an entry of C
 pub record InC (P : Problem) (i c : ℕ) : Type 0 where

@@ -6,7 +6,7 @@ use lib.IntN.{ℤ}
 use Rattle.rules.specs.Search.{found, smallest, total, each}
 use Rattle.rules.specs.Stages.{size, adds, next, eliminate, reduce, row, rows, Progress}
 use Rattle.scaling.specs.declared.work.Work.{Work}
-use Rattle.scaling.specs.Join.{stateOf, Fine, Tracks, most, tableFor, heightFor}
+use Rattle.scaling.specs.WorkState.{stateOf, Tracks, most, tableFor, heightFor}
 
 abbrev pub sizesIn : (stage2 : Bool) → (m n : ℕ) → Work → (row c : ℕ) → ℕ
 sizesIn stage2 m n s row c = size (tableFor stage2) (stateOf m n s) row c

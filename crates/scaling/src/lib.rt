@@ -7,8 +7,8 @@ ghost use Rattle.rules.specs.Problem.{WellFormed};
 ghost use Rattle.rules.specs.Stages as stages;
 ghost use Rattle.rules.specs.Calls.{verdict, rangeCheck, filled, built, buildOf};
 ghost use Rattle.checks.specs.Checks.{given};
-ghost use Rattle.checks.specs.Moduli.{problemOf};
-ghost use Rattle.scaling.specs.Answers.{Builds, RoomToBuild};
+ghost use Rattle.checks.specs.Moduli.{lentProblem};
+ghost use Rattle.scaling.specs.BuildPromise.{Builds, RoomToBuild};
 use checks::ROOM_H;
 use checks::ROOM_V;
 use checks::ROOM_W;
@@ -51,9 +51,9 @@ fn build_checked(
     v: &mut [i32],
     w: &mut [i32],
 ) -> BuildAnswer
-    requires { ⌜ WellFormed (problemOf n (now matrix) (now moduli)) ⌝ }
+    requires { ⌜ WellFormed (lentProblem n (now matrix) (now moduli)) ⌝ }
     requires { ⌜ RoomToBuild (now h) (now v) (now w) ⌝ }
-    ensures { λ r. ⌜ Builds (built (problemOf n (now (matrix .entry)) (now (moduli .entry))) (now (h .entry)) (now (v .entry)) (now (w .entry)) (verdict (rangeCheck (stages.run (problemOf n (now (matrix .entry)) (now (moduli .entry)))) ∷ []))) r (now (h .exit)) (now (v .exit)) (now (w .exit)) ⌝ }
+    ensures { λ r. ⌜ Builds (built (lentProblem n (now (matrix .entry)) (now (moduli .entry))) (now (h .entry)) (now (v .entry)) (now (w .entry)) (verdict (rangeCheck (stages.run (lentProblem n (now (matrix .entry)) (now (moduli .entry)))) ∷ []))) r (now (h .exit)) (now (v .exit)) (now (w .exit)) ⌝ }
 {
     let u = run::run(n, matrix, moduli);
     let work = u.work;

@@ -5,7 +5,7 @@ ghost use lib.IntN.{natAbs, negℤ, _+ℤ_, _*ℤ_, pos};
 ghost use lib.Signed.{quotZ, ltZ};
 ghost use Rattle.whole.specs.Division.{floorZ};
 ghost use Rattle.rules.specs.Limits.{isZero};
-ghost use Rattle.scaling.specs.Flat.{keep};
+ghost use Rattle.scaling.specs.Strided.{keep};
 use checks::beyond;
 
 // x + q * y

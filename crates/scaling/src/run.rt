@@ -4,8 +4,8 @@ ghost use Prim.Native.Nat.{_<_, _≤_, _+_, _*_};
 ghost use lib.ListN.{length};
 ghost use Rattle.rules.specs.Problem.{s, N, C, columns, WellFormed};
 ghost use Rattle.rules.specs.Steps as steps;
-ghost use Rattle.scaling.specs.Join.{Same};
-ghost use Rattle.checks.specs.Moduli.{problemOf, Lists};
+ghost use Rattle.scaling.specs.WorkState.{Same};
+ghost use Rattle.checks.specs.Moduli.{lentProblem, Lists};
 ghost use Rattle.scaling.specs.Problem.{InC, HoldsC, HoldsIdentity, Ran};
 use crate::numbers::opposite;
 use crate::work::Progress;
@@ -17,10 +17,10 @@ use checks::modulus_rows;
 
 // The entry of C in row i and column c.
 fn entry_of_c(n: usize, matrix: &[i32], moduli: &[i32], q: ModulusRows, i: usize, c: usize) -> i32
-    requires { ⌜ WellFormed (problemOf n (now matrix) (now moduli)) ⌝ }
-    requires { ⌜ Lists (problemOf n (now matrix) (now moduli)) q ⌝ }
-    requires { ⌜ InC (problemOf n (now matrix) (now moduli)) i c ⌝ }
-    ensures { λ r. ⌜ r ≡ C (problemOf n (now (matrix .entry)) (now (moduli .entry))) i c ⌝ }
+    requires { ⌜ WellFormed (lentProblem n (now matrix) (now moduli)) ⌝ }
+    requires { ⌜ Lists (lentProblem n (now matrix) (now moduli)) q ⌝ }
+    requires { ⌜ InC (lentProblem n (now matrix) (now moduli)) i c ⌝ }
+    ensures { λ r. ⌜ r ≡ C (lentProblem n (now (matrix .entry)) (now (moduli .entry))) i c ⌝ }
 {
     let s = q.s;
     if c < s {
@@ -35,9 +35,9 @@ fn entry_of_c(n: usize, matrix: &[i32], moduli: &[i32], q: ModulusRows, i: usize
 
 fn fill_c(t: &mut [i32; ROOM_H], n: usize, matrix: &[i32], moduli: &[i32], q: ModulusRows)
     requires { ⌜ length (now t) ≡ 192 ⌝ }
-    requires { ⌜ WellFormed (problemOf n (now matrix) (now moduli)) ⌝ }
-    requires { ⌜ Lists (problemOf n (now matrix) (now moduli)) q ⌝ }
-    ensures { λ r. ⌜ HoldsC (problemOf n (now (matrix .entry)) (now (moduli .entry))) (now (t .exit)) (now (t .entry)) ⌝ }
+    requires { ⌜ WellFormed (lentProblem n (now matrix) (now moduli)) ⌝ }
+    requires { ⌜ Lists (lentProblem n (now matrix) (now moduli)) q ⌝ }
+    ensures { λ r. ⌜ HoldsC (lentProblem n (now (matrix .entry)) (now (moduli .entry))) (now (t .exit)) (now (t .entry)) ⌝ }
 {
     let cols = n + q.s;
     let mut k = 0;
@@ -61,9 +61,9 @@ fn fill_identity(a: &mut [i32; ROOM_V], n: usize)
 }
 
 pub fn start(n: usize, matrix: &[i32], moduli: &[i32], q: ModulusRows) -> Work
-    requires { ⌜ WellFormed (problemOf n (now matrix) (now moduli)) ⌝ }
-    requires { ⌜ Lists (problemOf n (now matrix) (now moduli)) q ⌝ }
-    ensures { λ r. ⌜ Same (length (now (moduli .entry))) (N (problemOf n (now (matrix .entry)) (now (moduli .entry)))) r (steps.start (columns (problemOf n (now (matrix .entry)) (now (moduli .entry))))) ⌝ }
+    requires { ⌜ WellFormed (lentProblem n (now matrix) (now moduli)) ⌝ }
+    requires { ⌜ Lists (lentProblem n (now matrix) (now moduli)) q ⌝ }
+    ensures { λ r. ⌜ Same (length (now (moduli .entry))) (N (lentProblem n (now (matrix .entry)) (now (moduli .entry)))) r (steps.start (columns (lentProblem n (now (matrix .entry)) (now (moduli .entry))))) ⌝ }
 {
     let mut t: [i32; ROOM_H] = [0; ROOM_H];
     fill_c(&mut t, n, matrix, moduli, q);
@@ -87,8 +87,8 @@ pub struct Outcome {
 }
 
 pub fn run(n: usize, matrix: &[i32], moduli: &[i32]) -> Outcome
-    requires { ⌜ WellFormed (problemOf n (now matrix) (now moduli)) ⌝ }
-    ensures { λ r. ⌜ Ran (problemOf n (now (matrix .entry)) (now (moduli .entry))) r ⌝ }
+    requires { ⌜ WellFormed (lentProblem n (now matrix) (now moduli)) ⌝ }
+    ensures { λ r. ⌜ Ran (lentProblem n (now (matrix .entry)) (now (moduli .entry))) r ⌝ }
 {
     let m = moduli.len();
     let q = modulus_rows(moduli);

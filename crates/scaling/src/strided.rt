@@ -4,7 +4,7 @@ ghost use mathlib.Core.Bool.{_||_};
 ghost use Prim.Native.Nat.{_<_, _≤_, _*_};
 ghost use lib.ListN.{length};
 ghost use lib.IntN.{natAbs};
-ghost use Rattle.scaling.specs.Flat.{Within, Added, swapF, negF, rotateF};
+ghost use Rattle.scaling.specs.Strided.{Within, Added, swapF, negF, rotateF};
 use crate::numbers::mix;
 use crate::numbers::opposite;
 use crate::numbers::stored;
@@ -12,6 +12,7 @@ use checks::ROOM_H;
 use checks::ROOM_V;
 use checks::beyond;
 
+// The prover covers no `||`.
 pub fn either(a: bool, b: bool) -> bool
     ensures { λ r. ⌜ r ≡ a || b ⌝ }
 {

@@ -11,7 +11,7 @@ ghost use Rattle.rules.specs.Limits.{isZero};
 ghost use Rattle.rules.specs.Steps.{swapStep, negateStep, addStep};
 ghost use Rattle.rules.specs.Steps as steps;
 ghost use Rattle.rules.specs.Stages as stages;
-ghost use Rattle.scaling.specs.Join.{stateOf, Fine, Tracks, Same, One, Two, entriesFor};
+ghost use Rattle.scaling.specs.WorkState.{stateOf, Fine, Tracks, Same, One, Two, entriesFor};
 ghost use Rattle.scaling.specs.Scan.{sizes, Other, betterOf, Comparable, Divisible, Divisors, Unreduced, Lowest};
 ghost use Rattle.scaling.specs.Rows.{Ready, Eliminated, Pivot, Apart, AllReduced, RowBegun, RowDone, RowsBegun, RowsDone, Stage3Begun};
 use crate::numbers::cut;

@@ -20,7 +20,7 @@ use Rattle.rules.specs.Problem.{Problem, modulus, WellFormed}
 use Rattle.rules.specs.Stages.{Run, run}
 use Rattle.rules.specs.Formulas.{isNone, isFree, passes, Free, d, translated, Formula, terms, term, WellFormedFormula}
 use Rattle.rules.specs.Calls.{Check, taken, refused, verdict, unless, firstOut, termsFault, termRefused, problemFits, formulaFits, checksTo5}
-use Rattle.rules.specs.Calls.{sizesCheck, inputsCheck, outputsCheck, moduliCheck, entriesCheck, exponentsCheck, rangeCheck, termsCheck}
+use Rattle.rules.specs.Calls.{moduliCheck, entriesCheck, exponentsCheck, rangeCheck, termsCheck}
 use Rattle.rules.specs.Calls.{buildVerdict, translateVerdict}
 use Rattle.theory.proofs.Weights.{free-of-isFree}
 use Rattle.theory.proofs.Limits.{between, small}

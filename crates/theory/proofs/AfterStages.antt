@@ -20,20 +20,20 @@ use Rattle.theory.proofs.Search.{In}
 use Rattle.theory.proofs.StepLines.{count}
 use Rattle.theory.proofs.Moves.{Moves, both, still}
 use Rattle.theory.proofs.Reorder.{turn-low, turn-high, reorder-get}
-use Rattle.theory.proofs.Holds.{Holds, reorder-holds}
+use Rattle.theory.proofs.Equations.{Equations, reorder-holds}
 use Rattle.theory.proofs.Sequence.{moves-hold}
-use Rattle.theory.proofs.Pivots.{Pivot, pivot-kept, pivot-shifted, lowestRow, lowestRow-is, pivots-rise, hermite-of}
+use Rattle.theory.proofs.Pivots.{FinishedColumn, pivot-kept, pivot-shifted, lowestRow, lowestRow-is, pivots-rise, hermite-of}
 use Rattle.theory.proofs.Stage.{Advanced, stage-is}
 use Rattle.theory.proofs.StageThree.{Finished, finished-row, pivotRow-is, pivotRow-same, FirstReduced, stage3-is}
 
 -- ---- stage 1 and the reordering: T is [H 0]
 pub record AfterFirst (m n : ℕ) (C : Matrix) (r : ℕ) (u : State) : Type 0 where
   pub rank : r ≤ n
-  pub holds : Holds n C u
+  pub holds : Equations n C u
   pub zeros : (i c : ℕ) → i < m → In r n c → get onT u i c ≡ pos 0
-  pub pivots : (c : ℕ) → c < r → Pivot (get onT u) 0 r m 0 c
+  pub pivots : (c : ℕ) → c < r → FinishedColumn (get onT u) 0 r m 0 c
 
-module _ (m n : ℕ) (C : Matrix) (u : State) (h : Holds n C u) where
+module _ (m n : ℕ) (C : Matrix) (u : State) (h : Equations n C u) where
   pub first-advanced : Advanced onT n 0 m 0 (record { state = u; a = n }) (stage1 m n u)
   unfolding stage1
   first-advanced = stage-is onT n 0 m u (h .lines) (omega arith)
@@ -77,7 +77,7 @@ top-still v s i c l = still (omega arith) s (v .holds .lines) onT i (λ x j. v .
 -- ---- stage 2: the last n - r columns of V are in column Hermite form, none of them zero
 pub record AfterSecond (n r : ℕ) (C : Matrix) (u w : State) : Type 0 where
   pub moves : Moves n r n u w
-  pub holds : Holds n C w
+  pub holds : Equations n C w
   pub finished : Finished n r w
 
 -- W · V = I: V has no zero column
@@ -87,12 +87,12 @@ no-zero-column n C T U W g c h z =
     ∙ sum-out n (λ k. W c k *ℤ U k c) (λ k l. rw (z k l) (*ℤ-zero (W c k))) in
     omega (zarith, x)
 
-module _ (n r : ℕ) (C : Matrix) (u : State) (fit : r ≤ n) (h : Holds n C u) where
+module _ (n r : ℕ) (C : Matrix) (u : State) (fit : r ≤ n) (h : Equations n C u) where
   second-advanced : Advanced onV n r n 0 (record { state = u; a = n }) (stage2 n r u)
   unfolding stage2
   second-advanced = stage-is onV n r n u (h .lines) fit
 
-  second-holds : Holds n C (stage2 n r u .state)
+  second-holds : Equations n C (stage2 n r u .state)
   second-holds = moves-hold C (omega arith) (second-advanced .moves) h
 
   -- no active column is left: it would be a zero column of V

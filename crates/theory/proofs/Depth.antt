@@ -18,7 +18,7 @@ use Rattle.theory.proofs.Search.{In, Smallest, smallest-found}
 use Rattle.theory.proofs.StepLines.{add-steps}
 use Rattle.theory.proofs.Eliminate.{Adds, size-off, once}
 use Rattle.theory.proofs.Repetition.{adds-is, pivot-after}
-use Rattle.theory.proofs.Range.{Fine, fine-get}
+use Rattle.theory.proofs.Range.{NearState, fine-get}
 use Rattle.theory.proofs.Fibonacci.{fib, fib-45, fib-47}
 use Rattle.theory.proofs.Filled.{filled, filled-le, filled-some, filled-less, filled-same}
 use Rattle.theory.proofs.Pair.{Left, anywhere, pivot-same, cleared-left, none-left, reduced-left}
@@ -135,7 +135,7 @@ module _ (tb : Table) (lo a k : ℕ) where
     depth-all-within h = omega (arith, depth-by-entries 42 (λ c i. omega (arith, h c i, fib-45)), filled-le (size tb u k) lo a)
 
     -- in the run, if no value has passed M before (A) begins, whether or not one does in it
-    pub row-depth : (n : ℕ) → Fine n u → u .over ≡ false → a ≤ n → n ≤ 24 → eliminate tb lo a k u .steps ≤ u .steps + 66
+    pub row-depth : (n : ℕ) → NearState n u → u .over ≡ false → a ≤ n → n ≤ 24 → eliminate tb lo a k u .steps ≤ u .steps + 66
     unfolding size
     row-depth n f o h l = omega (arith, depth-all-within (λ c _. fine-get n u f o tb k c))
 

@@ -1,13 +1,13 @@
 -- Theorems about `rules`, none about code. For every problem: any m, n, entries and moduli, unless a line says otherwise.
 --
 -- 1. Kept throughout: T = C·V, V·W = I, W·V = I and the shapes hold at the start, after every column step and after the reordering.
---      Start.start-holds, .start-shape, Holds.swap-holds, .negate-holds, .add-holds, .reorder-holds; of any sequence of steps Sequence.steps-hold, .steps-shape
+--      Start.start-holds, .start-shape, Equations.swap-holds, .negate-holds, .add-holds, .reorder-holds; of any sequence of steps Sequence.steps-hold, .steps-shape
 -- 2. Every repetition ends: in (A) the sum of absolute values in the active columns falls, and the definition's bound cuts no step off.
 --      Eliminate.total-falls, .eliminate-ends
 -- 3. The run of any problem comes to a right answer; and what each stage leaves.
 --      Run.run-right; AfterStages.first-hermite, .second-hermite, .second-leaves-T, .second-rising, .third-is, .third-leaves-T
 -- 4. There is one right answer: two that are right for one problem are equal, r, H, V and W.
---      Unique.normal-unique; of the lists that hold them Answers.normal-lists-unique, .right-is-built
+--      Unique.normal-unique; of the lists that hold them RightLists.normal-lists-unique, .right-is-built
 -- 5. The range flag never falls, and it is set exactly when some step of the run writes a value beyond M; the count is that of the steps taken.
 --      Flag.rows-over and its like for every part of the run; Flag.over-exactly, .run-over, .run-counted
 -- 6. The last d columns of V are a basis of the whole vectors that C kills; with one modulus for each row their pivots stand in quantity rows,
@@ -45,7 +45,7 @@ pub mod Search
 --     Entries       each entry of T, V and W after each step: the steps are those of whole/proofs/Columns
 --     Lines         what holds of every line stays so; the shapes stay
 --     Reorder       where each line comes from in the reordering, and that it keeps T = C·V and the inverses
---     Holds         the equations of theorem 1, after each step and after the reordering
+--     Equations     the equations of theorem 1, after each step and after the reordering
 --     Start         the start: its lines, its shape, and that theorem 1 holds of it
 --     Moves         runs of steps whose sources are columns lo to a, and the frame law: a row that is zero there stays as it is
 --     Sequence      a run as a list of steps: what it keeps, what it writes, how many they are; for Flag and demand 2
@@ -53,7 +53,7 @@ pub mod StepLines
 pub mod Entries
 pub mod Lines
 pub mod Reorder
-pub mod Holds
+pub mod Equations
 pub mod Start
 pub mod Moves
 pub mod Sequence
@@ -79,13 +79,13 @@ pub mod Run
 --     Kernel        the last d columns of V are a basis of what C kills (theorem 6 too)
 --     Unique        theorem 4, of matrices
 --     SameEntries   what is right is so by its entries alone
---     Answers       theorem 4, of the lists that hold them
+--     RightLists    theorem 4, of the lists that hold them
 pub mod KeyLemma
 pub mod Lattice
 pub mod Kernel
 pub mod Unique
 pub mod SameEntries
-pub mod Answers
+pub mod RightLists
 -- ---- 5
 --     Parts         what the three steps keep, every part of the run keeps
 --     Flag          theorem 5; that the flag never falls is why `scaling` may stop at once

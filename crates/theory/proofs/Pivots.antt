@@ -15,7 +15,7 @@ use Rattle.rules.specs.Search.{Found, none, found, last}
 use Rattle.theory.proofs.Search.{In, LastIs, no-last, is-last, last-is}
 
 -- column c of A is finished, among columns lo to hi: its pivot stands in row 'at', at or below row k of m
-pub record Pivot (A : Matrix) (lo hi m k c : ℕ) : Type 0 where
+pub record FinishedColumn (A : Matrix) (lo hi m k c : ℕ) : Type 0 where
   pub at : ℕ
   pub first : k ≤ at
   pub within : at < m
@@ -27,7 +27,7 @@ pub record Pivot (A : Matrix) (lo hi m k c : ℕ) : Type 0 where
 
 -- it reads only rows k and below of columns lo to hi
 pub pivot-kept : (A B : Matrix) (lo hi m k l c : ℕ) → l ≤ k → In lo hi c → ((r d : ℕ) → k ≤ r → r < m → In lo hi d → B r d ≡ A r d)
-    → Pivot A lo hi m k c → Pivot B lo hi m l c
+    → FinishedColumn A lo hi m k c → FinishedColumn B lo hi m l c
 pivot-kept A B lo hi m k l c h i same p =
     let at : ℕ = p .at in
     record {
@@ -42,7 +42,7 @@ pivot-kept A B lo hi m k l c h i same p =
 
 -- columns s to s + d of A, as columns 0 to d of B
 pub pivot-shifted : (A B : Matrix) (lo hi m s d c : ℕ) → lo ≤ s → s + d ≤ hi → c < d → ((r j : ℕ) → j < d → B r j ≡ A r (s + j))
-    → Pivot A lo hi m 0 (s + c) → Pivot B 0 d m 0 c
+    → FinishedColumn A lo hi m 0 (s + c) → FinishedColumn B 0 d m 0 c
 pivot-shifted A B lo hi m s d c l h i same p =
     let at : ℕ = p .at in
     record {
@@ -69,7 +69,7 @@ lowestRow A m c = rowOf (lowest A m c)
 pub lowestRow-is : (A : Matrix) (m c k : ℕ) → lowest A m c ≡ found k → lowestRow A m c ≡ k
 lowestRow-is A m c k e = ap rowOf e
 
-pub pivot-found : (A : Matrix) (lo hi m k c : ℕ) (p : Pivot A lo hi m k c) → lowest A m c ≡ found (p .at)
+pub pivot-found : (A : Matrix) (lo hi m k c : ℕ) (p : FinishedColumn A lo hi m k c) → lowest A m c ≡ found (p .at)
 pivot-found A lo hi m k c p = go (last-is (λ r. not (isZero (A r c))) m)
   where
     zero-is : (x : ℤ) → x ≡ pos 0 → not (isZero x) ≡ false
@@ -94,14 +94,14 @@ pivot-found A lo hi m k c p = go (last-is (λ r. not (isZero (A r c))) m)
 
 -- ---- finished columns 0 to r, the others zero
 module _ (A : Matrix) (lo hi m k : ℕ) where
-  pub pivots-rise : (c d : ℕ) → c < d → lo ≤ c → (p : Pivot A lo hi m k c) (q : Pivot A lo hi m k d) → p .at < q .at
+  pub pivots-rise : (c d : ℕ) → c < d → lo ≤ c → (p : FinishedColumn A lo hi m k c) (q : FinishedColumn A lo hi m k d) → p .at < q .at
   pivots-rise c d h l p q = go (lt? (p .at) (q .at))
     where
       go : {b : Bool} → Test (p .at < q .at) (q .at ≤ p .at) b → p .at < q .at
       go (pass g) = g
       go (fail g) = let z : A (p .at) c ≡ pos 0 = q .left (p .at) c g (p .within) (omega arith) in absurd (omega (zarith, p .positive, z))
 
-pub hermite-of : (A : Matrix) (m n r : ℕ) → r ≤ n → ((c : ℕ) → c < r → Pivot A 0 r m 0 c) → ((i j : ℕ) → i < m → r ≤ j → j < n → A i j ≡ pos 0)
+pub hermite-of : (A : Matrix) (m n r : ℕ) → r ≤ n → ((c : ℕ) → c < r → FinishedColumn A 0 r m 0 c) → ((i j : ℕ) → i < m → r ≤ j → j < n → A i j ≡ pos 0)
     → Hermite m n r A (lowestRow A m)
 hermite-of A m n r h p z = record {
   rank = h;

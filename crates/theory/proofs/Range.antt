@@ -47,7 +47,7 @@ near-values l e =
 
 -- ---- states
 -- u has n lines, and they are all near unless the flag is set
-pub record Fine (n : ℕ) (u : State) : Type 0 where
+pub record NearState (n : ℕ) (u : State) : Type 0 where
   pub lines : count u ≡ n
   pub near : u .over ≡ false → (c : ℕ) → c < n → Near (line u c)
 
@@ -59,10 +59,10 @@ module _ {n lo a : ℕ} {u w : State} (m : Move n lo a u w) (e : w .over ≡ fal
   not-written : anyBeyond (writtenBy m) ≡ false
   not-written = or-neither (u .over) (anyBeyond (writtenBy m)) (sym (move-flag m) ∙ e) .1
 
-  lines-before : Fine n u → Every n Near u
+  lines-before : NearState n u → Every n Near u
   lines-before h = record { lines = h .lines; all = h .near not-before }
 
-move-near : (n : ℕ) (u w : State) → Move n 0 n u w → Fine n u → w .over ≡ false → Every n Near w
+move-near : (n : ℕ) (u w : State) → Move n 0 n u w → NearState n u → w .over ≡ false → Every n Near w
 move-near n u w (swap i j x y) h e =
     let m : Move n 0 n u (swapStep i j u) = swap i j x y in
     swap-every n Near u (lines-before m e h) i j (x .high) (y .high)
@@ -79,21 +79,21 @@ move-near n u w (add i j q x y d) h e =
     (record { t = b .all i (x .high) .t; v = b .all i (x .high) .v; w = append-right (to .t ++ to .v) (from .w) (not-written m e) })
     (record { t = append-left (to .t) (to .v) tv; v = append-right (to .t) (to .v) tv; w = b .all j y .w })
 
-move-fine : (n : ℕ) (u w : State) → Move n 0 n u w → Fine n u → Fine n w
+move-fine : (n : ℕ) (u w : State) → Move n 0 n u w → NearState n u → NearState n w
 move-fine n u w m h = record { lines = move-count m ∙ h .lines; near = λ e. move-near n u w m h e .all }
 
-reorder-fine : (n a : ℕ) (u : State) → a ≤ n → Fine n u → Fine n (reorder a u)
+reorder-fine : (n a : ℕ) (u : State) → a ≤ n → NearState n u → NearState n (reorder a u)
 unfolding reorder
 reorder-fine n a u l h = record {
   lines = reorder-count a u ∙ h .lines;
   near = λ e. reorder-every n Near u (record { lines = h .lines; all = h .near e }) a l .all;
 }
 
-pub steps-fine : {n : ℕ} {u w : State} → Steps n u w → Fine n u → Fine n w
-steps-fine {n} s = steps-keep (Fine n) (move-fine n) (λ a u l h. reorder-fine n a u l h) s
+pub steps-fine : {n : ℕ} {u w : State} → Steps n u w → NearState n u → NearState n w
+steps-fine {n} s = steps-keep (NearState n) (move-fine n) (λ a u l h. reorder-fine n a u l h) s
 
 -- ---- entries
-module _ (n : ℕ) (u : State) (h : Fine n u) (e : u .over ≡ false) where
+module _ (n : ℕ) (u : State) (h : NearState n u) (e : u .over ≡ false) where
   -- a line past the last is empty
   line-near : (c : ℕ) → Near (line u c)
   line-near c = go (lt? c n)

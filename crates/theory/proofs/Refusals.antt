@@ -12,7 +12,7 @@ use Rattle.rules.specs.Problem.{Problem}
 use Rattle.rules.specs.Stages.{run}
 use Rattle.rules.specs.Formulas.{Formula, isFree, term, terms}
 use Rattle.rules.specs.Calls.{Check, Verdict, taken, refused, verdict, termsFault, termRefused, checksTo5}
-use Rattle.rules.specs.Calls.{sizesCheck, inputsCheck, outputsCheck, moduliCheck, entriesCheck, exponentsCheck, rangeCheck, termsCheck}
+use Rattle.rules.specs.Calls.{exponentsCheck, rangeCheck, termsCheck}
 use Rattle.rules.specs.Calls.{buildVerdict, weighVerdict, translateVerdict}
 use Rattle.theory.proofs.Accepted.{all-pass, taken-of-all}
 

@@ -9,7 +9,7 @@ use Rattle.rules.specs.Problem.{Problem, N, C, columns}
 use Rattle.rules.specs.Forms.{Normal, Right}
 use Rattle.rules.specs.Steps.{State, onT, reorder, start}
 use Rattle.rules.specs.Stages.{Progress, stage1, stage2, runOn, run, H, U, W}
-use Rattle.theory.proofs.Holds.{Holds}
+use Rattle.theory.proofs.Equations.{Equations}
 use Rattle.theory.proofs.Start.{matrixOf, start-holds}
 use Rattle.theory.proofs.Sequence.{Steps, begin, reordered, follow}
 use Rattle.theory.proofs.Stage.{Advanced}
@@ -27,8 +27,8 @@ module _ (m n : ℕ) (cols : List (List ℤ)) (e : length cols ≡ n) where
   abbrev second : State
   second = stage2 n rank (reorder (first .a) (first .state)) .state
 
-  start-holds-n : Holds n (matrixOf cols) (start cols)
-  start-holds-n = subst (λ (k : ℕ). Holds k (matrixOf cols) (start cols)) e (start-holds cols)
+  start-holds-n : Equations n (matrixOf cols) (start cols)
+  start-holds-n = subst (λ (k : ℕ). Equations k (matrixOf cols) (start cols)) e (start-holds cols)
 
   after-first : AfterFirst m n (matrixOf cols) rank (reorder (first .a) (first .state))
   after-first = first-is m n (matrixOf cols) (start cols) start-holds-n

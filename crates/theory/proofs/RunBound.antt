@@ -12,12 +12,12 @@ use Rattle.rules.specs.Stages.{Progress, stage1, stage2, stage3, runOn, run}
 use Rattle.theory.proofs.Sequence.{begin, reordered, follow}
 use Rattle.theory.proofs.Stage.{Advanced, no-row-done, stage-is}
 use Rattle.theory.proofs.Flag.{stage2-over, stage3-over}
-use Rattle.theory.proofs.Range.{Fine, steps-fine}
+use Rattle.theory.proofs.Range.{NearState, steps-fine}
 use Rattle.theory.proofs.RunRange.{Moderate, problem-fine}
 use Rattle.theory.proofs.StepBound.{rows-steps, stage3-steps}
 
 -- 31 for each column are enough for the repetitions that clear none: two columns have 62, and one alone needs none
-module _ (n : ℕ) (u : State) (f : Fine n u) where
+module _ (n : ℕ) (u : State) (f : NearState n u) where
   stage1-steps : (m : ℕ) → stage1 m n u .state .over ≡ false → stage1 m n u .state .steps ≤ u .steps + m * (32 * n + 2)
   unfolding stage1
   stage1-steps m o =
@@ -30,7 +30,7 @@ module _ (n : ℕ) (u : State) (f : Fine n u) where
       let all : n - r + 31 * (n - r) + 2 ≡ 32 * (n - r) + 2 = omega arith in
       rw all at (rows-steps onV n r (31 * (n - r)) (omega arith) n n (omega arith) (record { state = u; a = n }) (no-row-done onV n r n u (f .lines) h) f o)
 
-pub runOn-bound : (m n : ℕ) (cols : List (List ℤ)) → Fine n (start cols) → runOn m n cols .state .over ≡ false
+pub runOn-bound : (m n : ℕ) (cols : List (List ℤ)) → NearState n (start cols) → runOn m n cols .state .over ≡ false
     → runOn m n cols .state .steps ≤ m * (32 * n + 2) + n * (32 * (n - runOn m n cols .rank) + 2) + (n - runOn m n cols .rank) * runOn m n cols .rank
 unfolding runOn reorder stage1
 runOn-bound m n cols f o = omega (
@@ -61,7 +61,7 @@ runOn-bound m n cols f o = omega (
     done : Advanced onT n 0 m 0 (record { state = start cols; a = n }) g
     done = stage-is onT n 0 m (start cols) (f .lines) (omega arith)
 
-    fv : Fine n v
+    fv : NearState n v
     fv = steps-fine (reordered (g .a) (done .stands .high) (follow (omega arith) begin (done .moves))) f
 
 -- an accepted problem takes at most m·(32N + 2) + N·(32d + 2) + d·r column steps, where d is N - r

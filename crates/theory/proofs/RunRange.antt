@@ -19,7 +19,7 @@ use Rattle.rules.specs.Stages.{run}
 use Rattle.theory.proofs.Start.{start-count, start-line}
 use Rattle.theory.proofs.Run.{run-steps}
 use Rattle.theory.proofs.Shape.{length-columns}
-use Rattle.theory.proofs.Range.{none-beyond, Fine, steps-fine, fine-get, fine-getW}
+use Rattle.theory.proofs.Range.{none-beyond, NearState, steps-fine, fine-get, fine-getW}
 
 -- ---- what holds of every modulus column and of every quantity column holds of every column of C
 module _ (Q : List ℤ → Type 0) (P : Problem)
@@ -64,14 +64,14 @@ none-beyond-unit zero i = refl
 none-beyond-unit (suc n) zero = none-beyond-zeros n
 none-beyond-unit (suc n) (suc i) = none-beyond-unit n i
 
-start-fine : (cols : List (List ℤ)) → ((c : ℕ) → c < length cols → anyBeyond (getD cols c []) ≡ false) → Fine (length cols) (start cols)
+start-fine : (cols : List (List ℤ)) → ((c : ℕ) → c < length cols → anyBeyond (getD cols c []) ≡ false) → NearState (length cols) (start cols)
 start-fine cols h = record {
   lines = start-count cols;
   near = λ _ c l. rw (start-line cols c l) (record { t = h c l; v = none-beyond-unit (length cols) c; w = none-beyond-unit (length cols) c });
 }
 
-pub problem-fine : (P : Problem) → Moderate P → Fine (N P) (start (columns P))
-problem-fine P h = subst (λ (n : ℕ). Fine n (start (columns P))) (length-columns P) (start-fine (columns P) small)
+pub problem-fine : (P : Problem) → Moderate P → NearState (N P) (start (columns P))
+problem-fine P h = subst (λ (n : ℕ). NearState n (start (columns P))) (length-columns P) (start-fine (columns P) small)
   where
     mods : (i : ℕ) → anyBeyond (modulusColumn P i) ≡ false
     mods i = none-beyond-tab (P .m) (λ r. elim (eqb i r) [ true ↦ negℤ (modulus P i) | false ↦ pos 0 ]) (λ r l. go r l (eq? i r))
@@ -83,7 +83,7 @@ problem-fine P h = subst (λ (n : ℕ). Fine n (start (columns P))) (length-colu
     small : (c : ℕ) → c < length (columns P) → anyBeyond (getD (columns P) c []) ≡ false
     small = every-column (λ c. anyBeyond c ≡ false) P mods (λ j l. none-beyond-tab (P .m) (λ i. entry P i j) (λ i k. h .entries i j k l))
 
-pub run-fine : (P : Problem) → Moderate P → Fine (N P) (run P .state)
+pub run-fine : (P : Problem) → Moderate P → NearState (N P) (run P .state)
 run-fine P h = steps-fine (run-steps P) (problem-fine P h)
 
 -- ---- so without the flag every entry of T, V and W is within M

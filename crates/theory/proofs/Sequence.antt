@@ -10,7 +10,7 @@ use Rattle.rules.specs.Steps.{State, line, values, negated, source, target, reo
 use Rattle.theory.proofs.StepLines.{swap-steps, negate-steps, add-steps}
 use Rattle.theory.proofs.Moves.{Move, swap, negate, add, Moves, stay, one, both, widen-move, moves-keep}
 use Rattle.theory.proofs.Lines.{Shape, swap-shape, negate-shape, add-shape, reorder-shape}
-use Rattle.theory.proofs.Holds.{Holds, swap-holds, negate-holds, add-holds, reorder-holds}
+use Rattle.theory.proofs.Equations.{Equations, swap-holds, negate-holds, add-holds, reorder-holds}
 
 -- a sequence that leads from u, among n columns
 pub data Steps (n : ℕ) (u : State) : State → Type 0 where
@@ -32,7 +32,7 @@ steps-keep Q f g (then s m) q = f _ _ m (steps-keep Q f g s q)
 steps-keep Q f g (reordered a h s) q = g a _ h (steps-keep Q f g s q)
 
 module _ (n lo a : ℕ) (fit : a ≤ n) where
-  pub move-holds : (C : Matrix) (u w : State) → Move n lo a u w → Holds n C u → Holds n C w
+  pub move-holds : (C : Matrix) (u w : State) → Move n lo a u w → Equations n C u → Equations n C w
   move-holds C u w (swap i j x y) h = swap-holds n C u h i j (omega arith) (omega arith)
   move-holds C u w (negate i x) h = negate-holds n C u h i (omega arith)
   move-holds C u w (add i j q x y d) h = add-holds n C u h i j q (omega arith) y d
@@ -42,12 +42,12 @@ module _ (n lo a : ℕ) (fit : a ≤ n) where
   move-shape m u w (negate i x) h = negate-shape m n u h i (omega arith)
   move-shape m u w (add i j q x y d) h = add-shape m n u h i j q (omega arith) y d
 
-pub moves-hold : {n lo a : ℕ} {u w : State} (C : Matrix) → a ≤ n → Moves n lo a u w → Holds n C u → Holds n C w
-moves-hold {n} {lo} {a} C fit m = moves-keep (Holds n C) (move-holds n lo a fit C) m
+pub moves-hold : {n lo a : ℕ} {u w : State} (C : Matrix) → a ≤ n → Moves n lo a u w → Equations n C u → Equations n C w
+moves-hold {n} {lo} {a} C fit m = moves-keep (Equations n C) (move-holds n lo a fit C) m
 
 -- theorem 1
-pub steps-hold : {n : ℕ} {u w : State} (C : Matrix) → Steps n u w → Holds n C u → Holds n C w
-steps-hold {n} C s = steps-keep (Holds n C) (move-holds n 0 n (omega arith) C) (λ a u l h. reorder-holds n C u h a l) s
+pub steps-hold : {n : ℕ} {u w : State} (C : Matrix) → Steps n u w → Equations n C u → Equations n C w
+steps-hold {n} C s = steps-keep (Equations n C) (move-holds n 0 n (omega arith) C) (λ a u l h. reorder-holds n C u h a l) s
 
 pub steps-shape : {n : ℕ} {u w : State} (m : ℕ) → Steps n u w → Shape m n u → Shape m n w
 steps-shape {n} m s = steps-keep (Shape m n) (move-shape n 0 n (omega arith) m) (λ a u l h. reorder-shape m n u h a l) s

@@ -30,7 +30,7 @@ record Reduced (tb : Table) (n lo a k p c : ℕ) (u w : State) : Type 0 where
   off : (r d : ℕ) → c ≢ d → get tb w r d ≡ get tb u r d
 
 -- columns first to hi, by steps whose sources are columns lo to a
-pub record AllReduced (tb : Table) (n lo a k p first hi : ℕ) (u w : State) : Type 0 where
+pub record ColumnsReduced (tb : Table) (n lo a k p first hi : ℕ) (u w : State) : Type 0 where
   pub moves : Moves n lo a u w
   pub same : (r d : ℕ) → ¬ In first hi d → get tb w r d ≡ get tb u r d
   pub inRange : (d : ℕ) → In first hi d → InRange (get tb w k d) (get tb u k p)
@@ -59,11 +59,11 @@ module _ (tb : Table) (n lo a k p : ℕ) (x : In lo a p) where
       }
 
   pub all-reduced : (first hi : ℕ) (u : State) → count u ≡ n → first ≤ hi → hi ≤ n → ¬ In first hi p → pos 0 <ℤ get tb u k p
-      → AllReduced tb n lo a k p first hi u (each (reduce tb k p) first hi u)
-  all-reduced first hi u e h l out pv = each-holds (λ c w. AllReduced tb n lo a k p first c u w) (reduce tb k p) first hi u h
+      → ColumnsReduced tb n lo a k p first hi u (each (reduce tb k p) first hi u)
+  all-reduced first hi u e h l out pv = each-holds (λ c w. ColumnsReduced tb n lo a k p first c u w) (reduce tb k p) first hi u h
       (record { moves = stay; same = λ r d _. refl; inRange = λ d i. absurd (omega arith) }) step
     where
-      step : (c : ℕ) (w : State) → In first hi c → AllReduced tb n lo a k p first c u w → AllReduced tb n lo a k p first (suc c) u (reduce tb k p c w)
+      step : (c : ℕ) (w : State) → In first hi c → ColumnsReduced tb n lo a k p first c u w → ColumnsReduced tb n lo a k p first (suc c) u (reduce tb k p c w)
       step c w i q = record {
         moves = both (q .moves) (now .moves);
         same = λ r d z. now .off r d (λ z₂. z (omega arith)) ∙ q .same r d (λ z₂. z (omega arith));
@@ -84,7 +84,7 @@ module _ (tb : Table) (n lo a k p : ℕ) (x : In lo a p) where
           pick d j (no z) = rw (now .off k d z) (q .inRange d (omega arith))
 
 -- ---- the whole of (B): b is the last active column
-pub record Settled (tb : Table) (n lo b k : ℕ) (u w : State) : Type 0 where
+pub record RowSettled (tb : Table) (n lo b k : ℕ) (u w : State) : Type 0 where
   pub moves : Moves n lo (suc b) u w
   pub pivot : pos 0 <ℤ get tb w k b
   pub zeros : (d : ℕ) → In lo b d → get tb w k d ≡ pos 0
@@ -138,7 +138,7 @@ module _ (tb : Table) (n lo b k : ℕ) (fit : b < n) (u : State) (e : count u �
 
 pub settle-is : (tb : Table) (n lo b k : ℕ) → b < n → (u : State) → count u ≡ n → (p : ℕ) → In lo (suc b) p → get tb u k p ≢ pos 0
     → ((c : ℕ) → In lo (suc b) c → p ≢ c → get tb u k c ≡ pos 0)
-    → Settled tb n lo b k u (settle tb n k p b u)
+    → RowSettled tb n lo b k u (settle tb n k p b u)
 unfolding settle
 settle-is tb n lo b k fit u e p i z y =
     let u₁ : State = bring p b u in
@@ -149,7 +149,7 @@ settle-is tb n lo b k fit u e p i z y =
     let e₂ : count u₂ ≡ n = moves-count (s₂ .moves) e₁ in
     let here : In lo (suc b) b = omega arith in
     let u₃ : State = each (reduce tb k b) (suc b) n u₂ in
-    let s₃ : AllReduced tb n lo (suc b) k b (suc b) n u₂ u₃ =
+    let s₃ : ColumnsReduced tb n lo (suc b) k b (suc b) n u₂ u₃ =
     all-reduced tb n lo (suc b) k b here (suc b) n u₂ e₂ fit (omega arith) (λ j. omega arith) (s₂ .pivot) in
     let same : get tb u₃ k b ≡ get tb u₂ k b = s₃ .same k b (λ j. omega arith) in
     record {

@@ -13,12 +13,12 @@ use Rattle.whole.proofs.Sum.{products-size}
 use Rattle.rules.specs.Limits.{M, mostTerms, roomH, roomV, roomW, roomWeights, roomExponents}
 use Rattle.rules.specs.Problem.{Problem, entry, modulus, WellFormed, s, N}
 use Rattle.rules.specs.Stages.{Run, run, H, U, W}
-use Rattle.rules.specs.Formulas.{rowTimes, weight, kOf, kAnd, d, translated, Formula, terms, term}
+use Rattle.rules.specs.Formulas.{rowTimes, weight, kOf, kThenV, d, translated, Formula, terms, term}
 use Rattle.rules.specs.Calls.{contentsH, contentsV, contentsW, weights, translatedExponents}
 use Rattle.theory.proofs.ModulusRows.{modulusRow, s-le-m}
-use Rattle.theory.proofs.Answers.{RightRun}
+use Rattle.theory.proofs.RightLists.{RightRun}
 use Rattle.theory.proofs.Groups.{d-le-n}
-use Rattle.theory.proofs.Weights.{kAnd-first, kAnd-rest}
+use Rattle.theory.proofs.Weights.{kThenV-first, kThenV-rest}
 use Rattle.theory.proofs.Grid.{grid-size}
 
 -- one entry of an add step, for any values of 32 bits
@@ -51,22 +51,22 @@ module _ (P : Problem) (G : WellFormed P) where
         let i = modulusRow P c in
         omega (arith, quot-le (rowTimes P v i) (modulus P i), row-size i)
 
-    pub kAnd-size : (c : ℕ) → c < N P → natAbs (kAnd P v c) ≤ 160_000_000
-    kAnd-size c h = go (decLt c (s P))
+    pub kThenV-size : (c : ℕ) → c < N P → natAbs (kThenV P v c) ≤ 160_000_000
+    kThenV-size c h = go (decLt c (s P))
       where
-        go : Dec (c < s P) → natAbs (kAnd P v c) ≤ 160_000_000
-        go (yes b) = rw (kAnd-first P v c b) (k-size c b)
+        go : Dec (c < s P) → natAbs (kThenV P v c) ≤ 160_000_000
+        go (yes b) = rw (kThenV-first P v c b) (k-size c b)
         go (no b) =
             let e : c ≡ s P + (c - s P) = omega arith in
-            rw (e, kAnd-rest P v (c - s P)) (omega (arith, E (c - s P) (omega arith)))
+            rw (e, kThenV-rest P v (c - s P)) (omega (arith, E (c - s P) (omega arith)))
 
     -- ---- the translation
     module _ (u : Run) (g : ℕ) (small : (c : ℕ) → c < N P → natAbs (W u (u .rank + g) c) ≤ M) where
-      pub translated-begun-size : (k : ℕ) → k ≤ N P → natAbs (sum k (λ c. W u (u .rank + g) c *ℤ kAnd P v c)) ≤ 24 * (M * 160_000_000)
+      pub translated-begun-size : (k : ℕ) → k ≤ N P → natAbs (sum k (λ c. W u (u .rank + g) c *ℤ kThenV P v c)) ≤ 24 * (M * 160_000_000)
       translated-begun-size k h =
-          omega (arith, N-le-24, products-size (N P) k M 160_000_000 (λ c. W u (u .rank + g) c) (kAnd P v) h small kAnd-size)
+          omega (arith, N-le-24, products-size (N P) k M 160_000_000 (λ c. W u (u .rank + g) c) (kThenV P v) h small kThenV-size)
 
-      pub translated-begun-fits : (k : ℕ) → k ≤ N P → natAbs (sum k (λ c. W u (u .rank + g) c *ℤ kAnd P v c)) < 2 ^ 63
+      pub translated-begun-fits : (k : ℕ) → k ≤ N P → natAbs (sum k (λ c. W u (u .rank + g) c *ℤ kThenV P v c)) < 2 ^ 63
       translated-begun-fits k h = omega (arith, translated-begun-size k h)
 
   -- ---- the outputs

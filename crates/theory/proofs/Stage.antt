@@ -13,23 +13,23 @@ use Rattle.theory.proofs.Search.{In, SmallestIs, all-zero, is-smallest,
 use Rattle.theory.proofs.StepLines.{count}
 use Rattle.theory.proofs.Moves.{Moves, stay, both, widen, moves-count, still}
 use Rattle.theory.proofs.Eliminate.{entry-zero, size-zero, eliminate-alone, eliminate-moves}
-use Rattle.theory.proofs.Settle.{Settled, settle-is}
-use Rattle.theory.proofs.Pivots.{Pivot, pivot-kept}
+use Rattle.theory.proofs.Settle.{RowSettled, settle-is}
+use Rattle.theory.proofs.Pivots.{FinishedColumn, pivot-kept}
 
 -- rows k and below, of m, are done: the active columns lo to a are zero there, and columns a to n are finished
-pub record RowsDone (tb : Table) (n lo m k : ℕ) (u : State) (a : ℕ) : Type 0 where
+pub record RowsFinished (tb : Table) (n lo m k : ℕ) (u : State) (a : ℕ) : Type 0 where
   pub low : lo ≤ a
   pub high : a ≤ n
   pub lines : count u ≡ n
   pub clean : (r : ℕ) → k ≤ r → r < m → (c : ℕ) → In lo a c → get tb u r c ≡ pos 0
-  pub pivots : (c : ℕ) → In a n c → Pivot (get tb u) lo n m k c
+  pub pivots : (c : ℕ) → In a n c → FinishedColumn (get tb u) lo n m k c
 
 -- what a part of a stage makes of g
 pub record Advanced (tb : Table) (n lo m k : ℕ) (g h : Progress) : Type 0 where
-  pub stands : RowsDone tb n lo m k (h .state) (h .a)
+  pub stands : RowsFinished tb n lo m k (h .state) (h .a)
   pub moves : Moves n lo n (g .state) (h .state)
 
-module _ (tb : Table) (n lo m k : ℕ) (hk : k < m) (u : State) (a : ℕ) (v : RowsDone tb n lo m (suc k) u a) where
+module _ (tb : Table) (n lo m k : ℕ) (hk : k < m) (u : State) (a : ℕ) (v : RowsFinished tb n lo m (suc k) u a) where
   -- a run over the active columns changes nothing in the rows done
   rows-still : {w : State} → Moves n lo a u w → (r : ℕ) → suc k ≤ r → r < m → (c : ℕ) → get tb w r c ≡ get tb u r c
   rows-still s r h l = still (v .high) s (v .lines) tb r (v .clean r h l)
@@ -43,17 +43,17 @@ module _ (tb : Table) (n lo m k : ℕ) (hk : k < m) (u : State) (a : ℕ) (v : R
         pick (yes e) = rw (← e) (z c i)
         pick (no d) = rows-still s r (omega arith) l c ∙ v .clean r (omega arith) l c (omega arith)
 
-    pivots-too : (c : ℕ) → In a n c → Pivot (get tb w) lo n m k c
+    pivots-too : (c : ℕ) → In a n c → FinishedColumn (get tb w) lo n m k c
     pivots-too c i = pivot-kept (get tb u) (get tb w) lo n m (suc k) k c (omega arith) (omega (arith, v .low))
         (λ r d h l _. rows-still s r h l d) (v .pivots c i)
 
     -- row k is all zero
-    passed : ((c : ℕ) → In lo a c → get tb w k c ≡ pos 0) → RowsDone tb n lo m k w a
+    passed : ((c : ℕ) → In lo a c → get tb w k c ≡ pos 0) → RowsFinished tb n lo m k w a
     passed z = record { low = v .low; high = v .high; lines = moves-count s (v .lines); clean = clean-too a (omega arith) z; pivots = pivots-too }
 
     -- row k has its pivot in the last active column b
     placed : (b : ℕ) → a ≡ suc b → lo ≤ b → pos 0 <ℤ get tb w k b → ((d : ℕ) → In lo b d → get tb w k d ≡ pos 0)
-        → ((d : ℕ) → In (suc b) n d → InRange (get tb w k d) (get tb w k b)) → RowsDone tb n lo m k w b
+        → ((d : ℕ) → In (suc b) n d → InRange (get tb w k d) (get tb w k b)) → RowsFinished tb n lo m k w b
     placed b e lb pv z right = record {
       low = lb;
       high = omega (arith, v .high);
@@ -62,7 +62,7 @@ module _ (tb : Table) (n lo m k : ℕ) (hk : k < m) (u : State) (a : ℕ) (v : R
       pivots = λ c i. pivot c i (ℕ-discrete c b);
     }
       where
-        pivot : (c : ℕ) → In b n c → Dec (c ≡ b) → Pivot (get tb w) lo n m k c
+        pivot : (c : ℕ) → In b n c → Dec (c ≡ b) → FinishedColumn (get tb w) lo n m k c
         pivot c i (yes d) = rw d (record {
           at = k;
           first = omega arith;
@@ -75,7 +75,7 @@ module _ (tb : Table) (n lo m k : ℕ) (hk : k < m) (u : State) (a : ℕ) (v : R
         pivot c i (no d) = pivots-too c (omega arith)
 
 module _ (tb : Table) (n lo m : ℕ) where
-  pub row-is : (k : ℕ) → k < m → (g : Progress) → RowsDone tb n lo m (suc k) (g .state) (g .a) → Advanced tb n lo m k g (row tb n lo k g)
+  pub row-is : (k : ℕ) → k < m → (g : Progress) → RowsFinished tb n lo m (suc k) (g .state) (g .a) → Advanced tb n lo m k g (row tb n lo k g)
   unfolding row
   row-is k hk g v = go (smallest-is (size tb w k) lo a)
     where
@@ -98,7 +98,7 @@ module _ (tb : Table) (n lo m : ℕ) where
           let i : In lo a p = s .within in
           let e : a ≡ suc b = omega arith in
           let fit : b < n = omega (arith, v .high) in
-          let done : Settled tb n lo b k w (settle tb n k p b w) = settle-is tb n lo b k fit w (moves-count first (v .lines)) p (omega arith)
+          let done : RowSettled tb n lo b k w (settle tb n k p b w) = settle-is tb n lo b k fit w (moves-count first (v .lines)) p (omega arith)
           (λ y. s .filled (size-zero tb w k p y)) (λ c j d. entry-zero tb w k c (eliminate-alone tb lo a k u p c i (omega arith) d (s .filled))) in
           let all : Moves n lo a u (settle tb n k p b w) = both first (widen (omega arith) (done .moves)) in
           record {
@@ -106,7 +106,7 @@ module _ (tb : Table) (n lo m : ℕ) where
             moves = widen (v .high) all;
           }
 
-  rows-are : (k : ℕ) → k ≤ m → (g : Progress) → RowsDone tb n lo m k (g .state) (g .a) → Advanced tb n lo m 0 g (rows tb n lo k g)
+  rows-are : (k : ℕ) → k ≤ m → (g : Progress) → RowsFinished tb n lo m k (g .state) (g .a) → Advanced tb n lo m 0 g (rows tb n lo k g)
   unfolding rows
   rows-are zero h g v = record { stands = v; moves = stay }
   rows-are (suc k) h g v =
@@ -115,7 +115,7 @@ module _ (tb : Table) (n lo m : ℕ) where
       record { stands = e .stands; moves = both (d .moves) (e .moves) }
 
   -- before the first row
-  pub no-row-done : (u : State) → count u ≡ n → lo ≤ n → RowsDone tb n lo m m u n
+  pub no-row-done : (u : State) → count u ≡ n → lo ≤ n → RowsFinished tb n lo m m u n
   no-row-done u e h = record { low = h; high = omega arith; lines = e; clean = λ r k l. absurd (omega arith); pivots = λ c i. absurd (omega arith) }
 
   -- the whole stage, from any state of n lines

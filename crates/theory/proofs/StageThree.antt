@@ -13,12 +13,12 @@ use Rattle.rules.specs.Stages.{size, reduce, pivotRow, reduceFirst, stage3}
 use Rattle.theory.proofs.Search.{In, last-cong}
 use Rattle.theory.proofs.StepLines.{count}
 use Rattle.theory.proofs.Moves.{Moves, stay, both, widen, moves-count, still}
-use Rattle.theory.proofs.Settle.{AllReduced, all-reduced}
-use Rattle.theory.proofs.Pivots.{Pivot, pivot-kept, lowest, pivot-found}
+use Rattle.theory.proofs.Settle.{ColumnsReduced, all-reduced}
+use Rattle.theory.proofs.Pivots.{FinishedColumn, pivot-kept, lowest, pivot-found}
 
 -- columns r to n of V are finished
 abbrev pub Finished : (n r : ℕ) → State → Type 0
-Finished n r u = (c : ℕ) → In r n c → Pivot (get onV u) r n n 0 c
+Finished n r u = (c : ℕ) → In r n c → FinishedColumn (get onV u) r n n 0 c
 
 pub pivotRow-is : (n c : ℕ) (u : State) → pivotRow n c u ≡ lowest (get onV u) n c
 unfolding size
@@ -53,7 +53,7 @@ module _ (n r : ℕ) (fit : r ≤ n) where
       here : In r n c
       here = omega arith
 
-      p : Pivot (get onV u) r n n 0 c
+      p : FinishedColumn (get onV u) r n n 0 c
       p = f c here
 
       k : ℕ
@@ -62,7 +62,7 @@ module _ (n r : ℕ) (fit : r ≤ n) where
       w : State
       w = each (reduce onV k c) 0 r u
 
-      now : AllReduced onV n r (suc c) k c 0 r u w
+      now : ColumnsReduced onV n r (suc c) k c 0 r u w
       now = all-reduced onV n r (suc c) k c (omega arith) 0 r u ct (omega arith) fit (λ i. omega arith) (p .positive)
 
       column-same : (i d : ℕ) → r ≤ d → get onV w i d ≡ get onV u i d

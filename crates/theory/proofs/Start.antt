@@ -15,7 +15,7 @@ use Rattle.whole.proofs.Columns.{kept-same}
 use Rattle.rules.specs.Steps.{Line, blank, line, get, getW, unit, startLines, start}
 use Rattle.theory.proofs.StepLines.{count}
 use Rattle.theory.proofs.Lines.{Shape}
-use Rattle.theory.proofs.Holds.{Holds}
+use Rattle.theory.proofs.Equations.{Equations}
 
 pub nth-zeros : (n r : ℕ) → nth (replicate n (pos 0)) r ≡ pos 0
 nth-zeros zero r = refl
@@ -59,7 +59,7 @@ module _ (cols : List (List ℤ)) where
   start-line c h = let z : 0 + c ≡ c = omega arith in rw z at (startLines-at (length cols) 0 cols c h)
 
   -- ---- theorem 1 at the start
-  pub start-holds : Holds (length cols) (matrixOf cols) (start cols)
+  pub start-holds : Equations (length cols) (matrixOf cols) (start cols)
   unfolding get getW
   start-holds =
       let n : ℕ = length cols in

@@ -18,8 +18,8 @@ use Rattle.theory.proofs.Search.{SmallestIs, all-zero, is-smallest, sma
 use Rattle.theory.proofs.StepLines.{swap-steps, negate-steps, add-steps}
 use Rattle.theory.proofs.Sequence.{begin, follow}
 use Rattle.theory.proofs.Flag.{rows-over}
-use Rattle.theory.proofs.Range.{Fine, steps-fine, fine-get}
-use Rattle.theory.proofs.Stage.{RowsDone, Advanced, row-is}
+use Rattle.theory.proofs.Range.{NearState, steps-fine, fine-get}
+use Rattle.theory.proofs.Stage.{RowsFinished, Advanced, row-is}
 use Rattle.theory.proofs.Depth.{depth-all-within, depth-alone}
 
 -- ---- (B)
@@ -74,7 +74,7 @@ settle-steps tb n k p b u = omega (
 
 -- ---- rows, with e for the repetitions of (A) that clear no column: 42 are enough, and a column alone needs none
 module _ (tb : Table) (n lo e : ℕ) (enough : 1 < n - lo → 42 ≤ e) where
-  eliminate-steps : (k a : ℕ) (u : State) → a ≤ n → Fine n u → u .over ≡ false → eliminate tb lo a k u .steps ≤ u .steps + (a - lo + e)
+  eliminate-steps : (k a : ℕ) (u : State) → a ≤ n → NearState n u → u .over ≡ false → eliminate tb lo a k u .steps ≤ u .steps + (a - lo + e)
   unfolding size
   eliminate-steps k a u fit f o = go (decLt 1 (a - lo))
     where
@@ -82,7 +82,7 @@ module _ (tb : Table) (n lo e : ℕ) (enough : 1 < n - lo → 42 ≤ e) where
       go (yes h) = omega (arith, enough (omega arith), depth-all-within tb lo a k u (λ c _. fine-get n u f o tb k c))
       go (no h) = omega (arith, depth-alone tb lo a k u (omega arith))
 
-  pub row-steps : (k : ℕ) (g : Progress) → g .a ≤ n → Fine n (g .state) → g .state .over ≡ false
+  pub row-steps : (k : ℕ) (g : Progress) → g .a ≤ n → NearState n (g .state) → g .state .over ≡ false
       → row tb n lo k g .state .steps ≤ g .state .steps + (n - lo + e + 2)
   unfolding row
   row-steps k g fit f o = go (smallest-is (size tb u k) lo (g .a))
@@ -97,14 +97,14 @@ module _ (tb : Table) (n lo e : ℕ) (enough : 1 < n - lo → 42 ≤ e) where
       go (all-zero z) = omega (arith, swept)
       go (is-smallest p s) = omega (arith, s .within .low, s .within .high, settle-steps tb n k p (g .a - 1) u, swept)
 
-  pub rows-steps : (m k : ℕ) → k ≤ m → (g : Progress) → RowsDone tb n lo m k (g .state) (g .a) → Fine n (g .state) → rows tb n lo k g .state .over ≡ false
+  pub rows-steps : (m k : ℕ) → k ≤ m → (g : Progress) → RowsFinished tb n lo m k (g .state) (g .a) → NearState n (g .state) → rows tb n lo k g .state .over ≡ false
       → rows tb n lo k g .state .steps ≤ g .state .steps + k * (n - lo + e + 2)
   unfolding rows
   rows-steps m zero h g v f o = omega arith
   rows-steps m (suc k) h g v f o =
       let w : Progress = row tb n lo k g in
       let d : Advanced tb n lo m k g w = row-is tb n lo m k h g v in
-      let f₂ : Fine n (w .state) = steps-fine (follow (omega arith) begin (d .moves)) f in
+      let f₂ : NearState n (w .state) = steps-fine (follow (omega arith) begin (d .moves)) f in
       let o₂ : g .state .over ≡ false = false-of (g .state .over) (rows tb n lo (suc k) g .state .over) (rows-over tb n lo (suc k) g) o in
       omega (arith, suc-mul k (n - lo + e + 2), row-steps k g (v .high) f o₂, rows-steps m k (omega arith) w (d .stands) f₂ o)
 

@@ -14,15 +14,15 @@ use Rattle.whole.proofs.Solver.{_⊕_, _⊗_, ⊝_, con, _≟_, ring₂, ring�
 use Rattle.whole.proofs.Sum.{sum-cong, sum-out}
 use Rattle.rules.specs.Problem.{Problem, entry, modulus, s, N, C}
 use Rattle.rules.specs.Stages.{Run, run, U}
-use Rattle.rules.specs.Formulas.{rowTimes, weight, Free, kOf, kAnd, d, translated, group, Formula, terms, term}
+use Rattle.rules.specs.Formulas.{rowTimes, weight, Free, kOf, kThenV, d, translated, group, Formula, terms, term}
 use Rattle.rules.specs.Calls.{translatedExponents}
 use Rattle.theory.proofs.KeyLemma.{one-combination}
 use Rattle.theory.proofs.Kernel.{Kills, combination-killed, killed-is}
 use Rattle.theory.proofs.ModulusRows.{modulusRow, modulus-not-zero, by-rows}
 use Rattle.theory.proofs.Product.{quantityPart, times-modulus-row, times-other-row}
-use Rattle.theory.proofs.Answers.{RightRun}
+use Rattle.theory.proofs.RightLists.{RightRun}
 use Rattle.theory.proofs.Groups.{groups-hermite}
-use Rattle.theory.proofs.Weights.{weight-without, weight-with, kAnd-first, kAnd-rest}
+use Rattle.theory.proofs.Weights.{weight-without, weight-with, kThenV-first, kThenV-rest}
 use Rattle.theory.proofs.Grid.{table, length-grid, table-grid}
 
 -- ---- a free v is the quantity part of a vector that C kills, and the other way round
@@ -57,22 +57,22 @@ module _ (P : Problem) (v : ℕ → ℤ) where
             ∙ +ℤ-idr (x c *ℤ p) in
             weight-with P v i (modulus-not-zero P c h) ∙ ap (λ y. remZ y p) e ∙ multiple-rem (x c) p
 
-  pub kernel-of-free : Free P v → Kills (P .m) (N P) (C P) (kAnd P v)
+  pub kernel-of-free : Free P v → Kills (P .m) (N P) (C P) (kThenV P v)
   unfolding kOf
   kernel-of-free f =
-      by-rows P (λ i. sum (N P) (λ c. C P i c *ℤ kAnd P v c) ≡ pos 0) (λ i a e. product-without (kAnd P v) rest i a e ∙ f .weights i a) with-modulus
+      by-rows P (λ i. sum (N P) (λ c. C P i c *ℤ kThenV P v c) ≡ pos 0) (λ i a e. product-without (kThenV P v) rest i a e ∙ f .weights i a) with-modulus
     where
-      rest : (j : ℕ) → j < P .n → kAnd P v (s P + j) ≡ v j
-      rest j b = kAnd-rest P v j
+      rest : (j : ℕ) → j < P .n → kThenV P v (s P + j) ≡ v j
+      rest j b = kThenV-rest P v j
 
-      with-modulus : (c : ℕ) → c < s P → modulusRow P c < P .m → sum (N P) (λ k. C P (modulusRow P c) k *ℤ kAnd P v k) ≡ pos 0
+      with-modulus : (c : ℕ) → c < s P → modulusRow P c < P .m → sum (N P) (λ k. C P (modulusRow P c) k *ℤ kThenV P v k) ≡ pos 0
       with-modulus c h b =
           let k = modulusRow P c in
           let p = modulus P k in
           let t = rowTimes P v k in
           let exact : t ≡ quotZ t p *ℤ p = quot-exact t p (sym (weight-with P v k (modulus-not-zero P c h)) ∙ f .weights k b) in
-          product-with (kAnd P v) rest c h b
-          ∙ ap₂ (λ y z. negℤ p *ℤ y +ℤ z) (kAnd-first P v c h) exact
+          product-with (kThenV P v) rest c h b
+          ∙ ap₂ (λ y z. negℤ p *ℤ y +ℤ z) (kThenV-first P v c h) exact
           ∙ ring₂ p (quotZ t p) (λ p q. ⊝ p ⊗ q ⊕ q ⊗ p ≟ con (pos 0)) tt
 
 -- the all-zero exponents are free in every problem
@@ -87,7 +87,7 @@ ofGroups P u e j = sum (d P u) (λ g. group P u g j *ℤ e g)
 module _ (P : Problem) (u : Run) (R : RightRun P u) (v : ℕ → ℤ) where
   pub translated-back : Free P v → (j : ℕ) → j < P .n → ofGroups P u (translated P u v) j ≡ v j
   unfolding group translated
-  translated-back f j b = sym (killed-is R (kAnd P v) (kernel-of-free P v f) (s P + j) (omega arith)) ∙ kAnd-rest P v j
+  translated-back f j b = sym (killed-is R (kThenV P v) (kernel-of-free P v f) (s P + j) (omega arith)) ∙ kThenV-rest P v j
 
   pub translated-only : length (P .moduli) ≡ P .m → Free P v → (e : ℕ → ℤ) → ((j : ℕ) → j < P .n → ofGroups P u e j ≡ v j)
       → (g : ℕ) → g < d P u → e g ≡ translated P u v g

@@ -9,7 +9,7 @@ use lib.Signed.{remZ}
 use Rattle.whole.proofs.Tests.{Test, pass, fail, lt?, is-true, is-false, negated, passed, failed}
 use Rattle.rules.specs.Limits.{isZero}
 use Rattle.rules.specs.Problem.{Problem, modulus, s}
-use Rattle.rules.specs.Formulas.{rowTimes, remainder, weight, Free, isFree, kOf, kAnd}
+use Rattle.rules.specs.Formulas.{rowTimes, remainder, weight, Free, isFree, kOf, kThenV}
 use Rattle.theory.proofs.Limits.{isZero?}
 use Rattle.theory.proofs.Search.{In, Nowhere, none?}
 
@@ -47,13 +47,13 @@ module _ (P : Problem) (v : ℕ → ℤ) where
   free-of-isFree e = passed isFree? e
 
   -- ---- k followed by v
-  pub kAnd-first : (c : ℕ) → c < s P → kAnd P v c ≡ kOf P v c
-  unfolding kAnd
-  kAnd-first c h = rw (is-true (lt? c (s P)) (λ g. omega arith), kAnd)
+  pub kThenV-first : (c : ℕ) → c < s P → kThenV P v c ≡ kOf P v c
+  unfolding kThenV
+  kThenV-first c h = rw (is-true (lt? c (s P)) (λ g. omega arith), kThenV)
 
-  pub kAnd-rest : (j : ℕ) → kAnd P v (s P + j) ≡ v j
-  unfolding kAnd
-  kAnd-rest j =
+  pub kThenV-rest : (j : ℕ) → kThenV P v (s P + j) ≡ v j
+  unfolding kThenV
+  kThenV-rest j =
       let e : s P + j - s P ≡ j = omega arith in
       let past = is-false (lt? (s P + j) (s P)) (λ g. omega arith) in
       ap (λ (b : Bool). elim b [ true ↦ kOf P v (s P + j) | false ↦ v (s P + j - s P) ]) past ∙ ap v e

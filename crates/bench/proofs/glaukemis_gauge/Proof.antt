@@ -7,9 +7,9 @@ use Rattle.rules.specs.Problem.{Problem}
 use Rattle.rules.specs.Gauges.{lentReadings, Gauged, gaugeOf, gaugeAnswer}
 use Rattle.checks.specs.Checks.{given}
 use Rattle.gauges.specs.declared.Gauged as declared
-use Rattle.gauges.specs.Held.{told}
+use Rattle.gauges.specs.Gauging.{told}
 use Rattle.bench.specs.declared.GaugeAnswer.{GaugeAnswer}
-use Rattle.bench.specs.Answers.{Gauges}
+use Rattle.bench.specs.GaugePromise.{Gauges}
 use Rattle.bench.proofs.GaugeCall.{gathered-same}
 use Rattle.bench.proofs.glaukemis_gauge.Statement.{statement}
 use Rattle.bench.proofs.glaukemis_gauge.Tie as tie

@@ -1,5 +1,5 @@
 -- `modulus_rows` meets its contract: after i turns the rows below i that have a modulus are listed.
-use mathlib.Core.Path.{_≡_, refl, sym, _∙_}
+use mathlib.Core.Path.{_≡_, sym, _∙_}
 use mathlib.Core.Logic.{⊎-elim}
 use Prim.Native.Nat.{_≤_, _<_, _-_, min}
 use native.Mathlib.Numerals.{add-one}

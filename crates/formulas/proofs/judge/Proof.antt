@@ -9,7 +9,7 @@ use borrow.Author.Tests.{not-true, not-false}
 use Rattle.rules.specs.Problem.{Problem}
 use Rattle.rules.specs.Stages.{run}
 use Rattle.rules.specs.Formulas.{isFree, passes}
-use Rattle.checks.specs.Moduli.{problemOf}
+use Rattle.checks.specs.Moduli.{lentProblem}
 use Rattle.formulas.specs.Terms.{from}
 use Rattle.formulas.proofs.Translating.{rows-in, passes-is, judged-by}
 use Rattle.formulas.proofs.judge.Statement.{statement}
@@ -17,7 +17,7 @@ use Rattle.formulas.proofs.judge.Tie as tie
 
 module _ (c : tie.Start) where
   abbrev P : Problem
-  P = problemOf (c .args .n) (now (c .args .matrix)) (now (c .args .moduli))
+  P = lentProblem (c .args .n) (now (c .args .matrix)) (now (c .args .moduli))
 
   abbrev v : ℕ → ℤ
   v = from (now (c .args .exponents)) (c .args .start)
@@ -31,8 +31,8 @@ is-free-requires c κs = search needs
 returns : tie.Need-returns
 returns c = let s = c .before .before in sym (judged-by (P s) (v s) (free-is (c .before) (not-true _ (c .if1 .taken))) refl)
 
-k-and-requires : tie.Need-k-and-requires
-k-and-requires c κs = search needs
+k-then-v-requires : tie.Need-k-then-v-requires
+k-then-v-requires c κs = search needs
 
 add-passes : tie.Need-add-passes
 add-passes c = search needs
@@ -40,7 +40,7 @@ add-passes c = search needs
 passes-requires : tie.Need-passes-requires
 passes-requires c κs =
     let s = c .before .before .before .before .before in
-    rows-in (s .pre .0) (s .pre .1 .0) (s .pre .1 .1 .0) (c .before .before .k-and .ensures)
+    rows-in (s .pre .0) (s .pre .1 .0) (s .pre .1 .1 .0) (c .before .before .k-then-v .ensures)
 
 -- ---- once `passes` has answered
 module _ (c : tie.After-passes) where
@@ -56,7 +56,7 @@ module _ (c : tie.After-passes) where
   passing : {b : Bool} → c .passes .result ≡ b → passes (P entry) (run (P entry)) (v entry) ≡ b
   passing e =
       let p = entry .pre in
-      sym (rw (passes-is (p .0) (p .1 .0) (p .1 .1 .0) (c .before .before .before .k-and .ensures)) at (c .passes .ensures)) ∙ e
+      sym (rw (passes-is (p .0) (p .1 .0) (p .1 .1 .0) (c .before .before .before .k-then-v .ensures)) at (c .passes .ensures)) ∙ e
 
 returns-2 : tie.Need-returns-2
 returns-2 c = let s = entry (c .before) in sym (judged-by (P s) (v s) (free (c .before)) (passing (c .before) (c .if2 .taken)))
@@ -70,7 +70,7 @@ judge-spec =
     (tie.spec
     is-free-requires
     returns
-    k-and-requires
+    k-then-v-requires
     add-passes
     passes-requires
     returns-2

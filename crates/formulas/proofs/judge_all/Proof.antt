@@ -15,9 +15,9 @@ use Rattle.rules.specs.Stages.{run}
 use Rattle.rules.specs.Formulas.{Formula, terms, term}
 use Rattle.rules.specs.Calls.{refused, verdict, termRefused, termsFault, termsCheck}
 use Rattle.theory.proofs.Loops.{first-start, first-more, first-hit}
-use Rattle.checks.specs.Moduli.{problemOf}
+use Rattle.checks.specs.Moduli.{lentProblem}
 use Rattle.checks.specs.Checks.{Says, takes, refuses}
-use Rattle.formulas.specs.Answers.{formulaOf, judged}
+use Rattle.formulas.specs.FormulaPromises.{lentFormula, judged}
 use Rattle.formulas.proofs.Translating.{term-place, term-monomial, judged-refused, judged-taken}
 use Rattle.formulas.proofs.judge_all.Statement.{statement}
 use Rattle.formulas.proofs.judge_all.Tie as tie
@@ -43,17 +43,17 @@ module _ (P : Problem) (f : Formula) where
 
 abbrev Inv-loop : tie.InvT-loop
 Inv-loop n matrix moduli q w r coefficients exponents t₀ t =
-    (t ≤ length coefficients) × (first (bad (problemOf n matrix moduli) (formulaOf coefficients exponents)) 0 t ≡ none)
+    (t ≤ length coefficients) × (first (bad (lentProblem n matrix moduli) (lentFormula coefficients exponents)) 0 t ≡ none)
 
 abbrev μ-loop : tie.MeasureT-loop
 μ-loop n matrix moduli q w r coefficients exponents t₀ t = length coefficients - t
 
 module _ (c : tie.Start Inv-loop μ-loop) where
   abbrev P : Problem
-  P = problemOf (c .args .n) (now (c .args .matrix)) (now (c .args .moduli))
+  P = lentProblem (c .args .n) (now (c .args .matrix)) (now (c .args .moduli))
 
   abbrev f : Formula
-  f = formulaOf (now (c .args .coefficients)) (now (c .args .exponents))
+  f = lentFormula (now (c .args .coefficients)) (now (c .args .exponents))
 
 loop-holds : tie.Need-loop-holds Inv-loop μ-loop
 loop-holds c = (omega arith, first-start _ 0 0 (omega arith))

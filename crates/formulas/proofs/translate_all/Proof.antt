@@ -18,9 +18,9 @@ use Rattle.rules.specs.Stages.{run}
 use Rattle.rules.specs.Formulas.{Formula, terms, term, translated, d as groupCount}
 use Rattle.rules.specs.Calls.{grid, filled, translatedExponents}
 use Rattle.theory.proofs.Grid.{length-grid}
-use Rattle.checks.specs.Moduli.{problemOf}
+use Rattle.checks.specs.Moduli.{lentProblem}
 use Rattle.scaling.proofs.Filling.{front-turn, filled-front}
-use Rattle.formulas.specs.Answers.{formulaOf}
+use Rattle.formulas.specs.FormulaPromises.{lentFormula}
 use Rattle.formulas.proofs.GridRows.{begun, begun-none, begun-turn, length-begun}
 use Rattle.formulas.proofs.Translating.{groups-are, few-cols, rank-in, room-for-terms}
 use Rattle.formulas.proofs.Translating.{rows-in, exponent-is, taken-passes, term-place, term-monomial}
@@ -33,7 +33,7 @@ exponentsOf P f t g = translated P (run P) (term P f t) g
 
 abbrev Inv-loop : tie.InvT-loop
 Inv-loop kept₀ out₀ n matrix moduli q w r coefficients exponents cols d t₀ kept out t =
-    (t ≤ length coefficients) × (out ≡ begun (n + q .s - r) (exponentsOf (problemOf n matrix moduli) (formulaOf coefficients exponents)) out₀ t)
+    (t ≤ length coefficients) × (out ≡ begun (n + q .s - r) (exponentsOf (lentProblem n matrix moduli) (lentFormula coefficients exponents)) out₀ t)
     × (length kept ≡ length kept₀) × (kept ≡ tab t (nth coefficients) ++ drop t kept₀)
 
 abbrev μ-loop : tie.MeasureT-loop
@@ -41,10 +41,10 @@ abbrev μ-loop : tie.MeasureT-loop
 
 module _ (c : tie.Start Inv-loop μ-loop) where
   abbrev P : Problem
-  P = problemOf (c .args .n) (now (c .args .matrix)) (now (c .args .moduli))
+  P = lentProblem (c .args .n) (now (c .args .matrix)) (now (c .args .moduli))
 
   abbrev f : Formula
-  f = formulaOf (now (c .args .coefficients)) (now (c .args .exponents))
+  f = lentFormula (now (c .args .coefficients)) (now (c .args .exponents))
 
   abbrev out : List ℤ
   out = now (c .args .out)
@@ -62,7 +62,7 @@ module _ (c : tie.Start Inv-loop μ-loop) where
   long t h e = ap length e ∙ length-begun d (exponentsOf P f) out t (room t h)
 
 -- ---- a turn
-module _ (c : tie.After-k-and Inv-loop μ-loop) where
+module _ (c : tie.After-k-then-v Inv-loop μ-loop) where
   abbrev entry : tie.Start Inv-loop μ-loop
   entry = c .before .before .before .before .before
 
@@ -102,13 +102,13 @@ slice-set-from-kept c =
     let p = c .before .before .before .before .pre in
     omega (arith, c .before .loop-test .taken, p .1 .1 .1 .0 .few, p .1 .1 .1 .1 .0 .kept, c .before .before .loop .inv .2)
 
-mul-k-and : tie.Need-mul-k-and Inv-loop μ-loop
-mul-k-and c =
+mul-k-then-v : tie.Need-mul-k-then-v Inv-loop μ-loop
+mul-k-then-v c =
     let p = c .before .before .before .before .pre in
     omega (arith, term-place (p .0) (p .1 .1 .1 .0) (c .before .before .loop .done) (c .before .loop-test .taken))
 
-k-and-requires : tie.Need-k-and-requires Inv-loop μ-loop
-k-and-requires c κs =
+k-then-v-requires : tie.Need-k-then-v-requires Inv-loop μ-loop
+k-then-v-requires c κs =
     let p = c .before .before .before .before .pre in
     (p .0, (p .1 .0, term-monomial (p .0) (p .1 .1 .1 .0) (c .before .before .loop .done) (c .before .loop-test .taken)))
 
@@ -119,9 +119,9 @@ translate-term-requires : tie.Need-translate-term-requires Inv-loop μ-loop
 translate-term-requires c κs =
     let k = c .before in
     let p = entry k .pre in (
-      rows-in (p .0) (p .1 .0) (p .1 .1 .0) (k .k-and .ensures),
+      rows-in (p .0) (p .1 .0) (p .1 .1 .0) (k .k-then-v .ensures),
       (
-        taken-passes (p .0) (p .1 .0) (p .1 .1 .0) (k .k-and .ensures) (p .1 .1 .1 .1 .1 .each (t k) (k .before .before .loop-test .taken)),
+        taken-passes (p .0) (p .1 .0) (p .1 .1 .0) (k .k-then-v .ensures) (p .1 .1 .1 .1 .1 .each (t k) (k .before .before .loop-test .taken)),
         turn-room k,
       ),
     )
@@ -138,7 +138,7 @@ loop-again c =
     let s = entry k in
     let p = s .pre in
     let A = exponentsOf (P s) (f s) in
-    let row = exponent-is (p .0) (p .1 .0) (p .1 .1 .0) (k .k-and .ensures) in
+    let row = exponent-is (p .0) (p .1 .0) (p .1 .1 .0) (k .k-then-v .ensures) in
     let l = k .before .before .before .loop in (
       omega (arith, k .before .before .loop-test .taken),
       rw (c .before .translate-term .ensures) (begun-turn (d s) A (out s) (t k) _ row (l .inv .1)),
@@ -181,8 +181,8 @@ translate-all-spec =
     shared-slice-copy-out-kept
     mul-t19
     slice-set-from-kept
-    mul-k-and
-    k-and-requires
+    mul-k-then-v
+    k-then-v-requires
     mul-translate-term
     translate-term-requires
     add-done

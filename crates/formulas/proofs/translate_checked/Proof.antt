@@ -1,14 +1,13 @@
 -- `translate_checked` meets its contract: 8 and 9 are what `judge_all` says, then every term is written.
-use mathlib.Core.Path.{_≡_}
 use Prim.Native.Nat.{_+_, _≤_}
 use native.Mathlib.Omega.{arith}
 use denote.Ref.{now}
 use borrow.Author.Needs.{needs}
 use Rattle.rules.specs.Problem.{Problem}
 use Rattle.rules.specs.Formulas.{Formula}
-use Rattle.checks.specs.Moduli.{problemOf, Lists}
+use Rattle.checks.specs.Moduli.{lentProblem, Lists}
 use Rattle.checks.proofs.Listing.{lists-all}
-use Rattle.formulas.specs.Answers.{formulaOf}
+use Rattle.formulas.specs.FormulaPromises.{lentFormula}
 use Rattle.formulas.proofs.Translating.{groups-are, few-cols, rank-in}
 use Rattle.formulas.proofs.TranslateCall.{refused-there, none-refused, all-written}
 use Rattle.formulas.proofs.translate_checked.Statement.{statement}
@@ -16,10 +15,10 @@ use Rattle.formulas.proofs.translate_checked.Tie as tie
 
 module _ (c : tie.Start) where
   abbrev P : Problem
-  P = problemOf (c .args .n) (now (c .args .matrix)) (now (c .args .moduli))
+  P = lentProblem (c .args .n) (now (c .args .matrix)) (now (c .args .moduli))
 
   abbrev f : Formula
-  f = formulaOf (now (c .args .coefficients)) (now (c .args .exponents))
+  f = lentFormula (now (c .args .coefficients)) (now (c .args .exponents))
 
 module _ (c : tie.After-modulus-rows) where
   listed : Lists (P (c .before)) (c .modulus-rows .result)

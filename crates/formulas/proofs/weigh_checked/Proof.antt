@@ -15,7 +15,7 @@ use Rattle.rules.specs.Limits.{M}
 use Rattle.rules.specs.Problem.{Problem}
 use Rattle.rules.specs.Formulas.{weight}
 use Rattle.rules.specs.Calls.{weights}
-use Rattle.checks.specs.Moduli.{problemOf}
+use Rattle.checks.specs.Moduli.{lentProblem}
 use Rattle.formulas.proofs.Sums.{narrows, narrowed}
 use Rattle.formulas.proofs.Weighing.{from-front}
 use Rattle.scaling.proofs.Filling.{front-turn, length-front}
@@ -24,14 +24,14 @@ use Rattle.formulas.proofs.weigh_checked.Tie as tie
 
 abbrev Inv-loop : tie.InvT-loop
 Inv-loop n matrix moduli exponents weights₀ i₀ weights i =
-    (i ≤ length moduli) × (weights ≡ tab i (weight (problemOf n matrix moduli) (nth exponents)) ++ drop i weights₀)
+    (i ≤ length moduli) × (weights ≡ tab i (weight (lentProblem n matrix moduli) (nth exponents)) ++ drop i weights₀)
 
 abbrev μ-loop : tie.MeasureT-loop
 μ-loop n matrix moduli exponents weights₀ i₀ weights i = length moduli - i
 
 module _ (c : tie.Start Inv-loop μ-loop) where
   abbrev P : Problem
-  P = problemOf (c .args .n) (now (c .args .matrix)) (now (c .args .moduli))
+  P = lentProblem (c .args .n) (now (c .args .matrix)) (now (c .args .moduli))
 
   abbrev v : ℕ → ℤ
   v = nth (now (c .args .exponents))

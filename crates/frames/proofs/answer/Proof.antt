@@ -1,7 +1,7 @@
 -- `frames::answer` shows what the program prints: for a refusal its line, else what `solve` shows.
 -- Assumes nothing.
 use Rattle.rules.specs.Frames.{program}
-use Rattle.frames.proofs.Held.{number-refuses, number-sized, number-takes}
+use Rattle.frames.proofs.InputContents.{number-refuses, number-sized, number-takes}
 use borrow.Author.Needs.{needs}
 use Rattle.frames.proofs.answer.Statement.{statement}
 use Rattle.frames.proofs.answer.Tie as tie

@@ -11,8 +11,8 @@ use lib.Ieee.Positive.{positive}
 use Rattle.rules.specs.Limits.{powerInRange}
 use Rattle.rules.specs.Search.{none, first}
 use Rattle.rules.specs.Gauges.{read}
-use Rattle.scaling.specs.Flat.{Within}
-use Rattle.gauges.specs.Held.{column}
+use Rattle.scaling.specs.Strided.{Within}
+use Rattle.gauges.specs.Gauging.{column}
 use Rattle.gauges.proofs.Checked.{bad-reading, no-group, large-power, out-of-range, in-range}
 use Rattle.gauges.proofs.evaluate.Statement.{statement}
 use Rattle.gauges.proofs.evaluate.Tie as tie

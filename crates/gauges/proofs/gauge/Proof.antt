@@ -10,7 +10,7 @@ use Rattle.rules.specs.Problem.{Problem}
 use Rattle.rules.specs.Gauges as rules
 use Rattle.scaling.specs.declared.BuildAnswer.{BuildAnswer}
 use Rattle.checks.specs.Checks.{given}
-use Rattle.gauges.specs.Held.{setOf}
+use Rattle.gauges.specs.Gauging.{setOf}
 use Rattle.scaling.proofs.Called.{Called}
 use Rattle.gauges.proofs.Called.{refused-for-sizes, refused-for-count, refused-by-build}
 use Rattle.gauges.proofs.Called.{well-formed, few-cols, rank-in, table, evaluated}

@@ -4,7 +4,7 @@ use Prim.Native.Nat.{ℕ, _+_, _*_, _≤_}
 use native.Mathlib.Omega.{arith}
 use borrow.Author.Needs.{needs}
 use Rattle.rules.specs.Problem.{Problem, N}
-use Rattle.checks.specs.Moduli.{problemOf}
+use Rattle.checks.specs.Moduli.{lentProblem}
 use Rattle.theory.proofs.Sizes.{N-le-24}
 use Rattle.scaling.proofs.MatrixC.{area-above, square-above}
 use Rattle.scaling.proofs.State.{Long}
@@ -26,7 +26,7 @@ module _ (c : tie.Else1) where
   b = c .before .before .before
 
   abbrev problem : Problem
-  problem = problemOf (b .args .n) (b .args .matrix .now) (b .args .moduli .now)
+  problem = lentProblem (b .args .n) (b .args .matrix .now) (b .args .moduli .now)
 
   abbrev cols : ℕ
   cols = b .args .n + c .before .before .run .result .s

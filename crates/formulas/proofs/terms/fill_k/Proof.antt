@@ -13,22 +13,22 @@ use borrow.Author.Needs.{needs}
 use Rattle.whole.proofs.Division.{quot-le}
 use Rattle.rules.specs.Problem.{Problem, modulus}
 use Rattle.rules.specs.Formulas.{rowTimes, kOf}
-use Rattle.checks.specs.Moduli.{problemOf}
+use Rattle.checks.specs.Moduli.{lentProblem}
 use Rattle.formulas.specs.Terms.{from, Modulus}
-use Rattle.formulas.proofs.KAndV.{Begins, begins-more, listed-modulus}
+use Rattle.formulas.proofs.KThenV.{Begins, begins-more, listed-modulus}
 use Rattle.formulas.proofs.Weighing.{row-size}
 use Rattle.formulas.proofs.terms.fill_k.Statement.{statement}
 use Rattle.formulas.proofs.terms.fill_k.Tie as tie
 
 abbrev Inv-loop : tie.InvT-loop
-Inv-loop n matrix moduli es start e₀ q c₀ s e c = (c ≤ q .s) × Begins (kOf (problemOf n matrix moduli) (from es start)) c (e .x)
+Inv-loop n matrix moduli es start e₀ q c₀ s e c = (c ≤ q .s) × Begins (kOf (lentProblem n matrix moduli) (from es start)) c (e .x)
 
 abbrev μ-loop : tie.MeasureT-loop
 μ-loop n matrix moduli es start e₀ q c₀ s e c = q .s - c
 
 module _ (c : tie.Start Inv-loop μ-loop) where
   abbrev P : Problem
-  P = problemOf (c .args .n) (now (c .args .matrix)) (now (c .args .moduli))
+  P = lentProblem (c .args .n) (now (c .args .matrix)) (now (c .args .moduli))
 
   abbrev v : ℕ → ℤ
   v = from (now (c .args .es)) (c .args .start)

@@ -17,7 +17,7 @@ use Rattle.rules.specs.Search.{none, first}
 use Rattle.rules.specs.Problem.{Problem}
 use Rattle.rules.specs.Formulas.{weight, isNone, isFree}
 use Rattle.theory.proofs.Loops.{first-start, first-more, first-hit}
-use Rattle.checks.specs.Moduli.{problemOf}
+use Rattle.checks.specs.Moduli.{lentProblem}
 use Rattle.formulas.specs.Terms.{from, Weight}
 use Rattle.checks.proofs.Values.{zero-bits}
 use Rattle.formulas.proofs.terms.is_free.Statement.{statement}
@@ -32,14 +32,14 @@ tested : {P : Problem} {v : ℕ → ℤ} {i : ℕ} {w : ℤ} {b : Bool} → Weig
 tested {w = w} weighs fits e = ap (λ x. not (isZero x)) (sym (weighs .is)) ∙ ap not (sym (zero-bits w64 refl w fits) ∙ e)
 
 abbrev Inv-loop : tie.InvT-loop
-Inv-loop n matrix moduli es start i₀ i = (i ≤ length moduli) × (first (bad (problemOf n matrix moduli) (from es start)) 0 i ≡ none)
+Inv-loop n matrix moduli es start i₀ i = (i ≤ length moduli) × (first (bad (lentProblem n matrix moduli) (from es start)) 0 i ≡ none)
 
 abbrev μ-loop : tie.MeasureT-loop
 μ-loop n matrix moduli es start i₀ i = length moduli - i
 
 module _ (c : tie.Start Inv-loop μ-loop) where
   abbrev P : Problem
-  P = problemOf (c .args .n) (now (c .args .matrix)) (now (c .args .moduli))
+  P = lentProblem (c .args .n) (now (c .args .matrix)) (now (c .args .moduli))
 
   abbrev v : ℕ → ℤ
   v = from (now (c .args .es)) (c .args .start)

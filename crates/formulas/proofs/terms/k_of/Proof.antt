@@ -11,7 +11,7 @@ use denote.Ref.{now}
 use borrow.Author.Needs.{needs}
 use Rattle.rules.specs.Problem.{Problem, modulus}
 use Rattle.rules.specs.Formulas.{rowTimes}
-use Rattle.checks.specs.Moduli.{problemOf}
+use Rattle.checks.specs.Moduli.{lentProblem}
 use Rattle.formulas.specs.Terms.{from}
 use Rattle.checks.proofs.Values.{cast-fits, widened, quot-fits}
 use Rattle.formulas.proofs.Sums.{divides64}
@@ -21,7 +21,7 @@ use Rattle.formulas.proofs.terms.k_of.Tie as tie
 
 module _ (c : tie.Start) where
   abbrev P : Problem
-  P = problemOf (c .args .n) (now (c .args .matrix)) (now (c .args .moduli))
+  P = lentProblem (c .args .n) (now (c .args .matrix)) (now (c .args .moduli))
 
   abbrev v : ℕ → ℤ
   v = from (now (c .args .es)) (c .args .start)

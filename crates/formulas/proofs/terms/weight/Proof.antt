@@ -16,7 +16,7 @@ use Rattle.rules.specs.Problem.{Problem, modulus}
 use Rattle.rules.specs.Formulas.{rowTimes, remainder}
 use Rattle.theory.proofs.Weights.{weight-without, weight-with}
 use Rattle.theory.proofs.Limits.{isZero?}
-use Rattle.checks.specs.Moduli.{problemOf}
+use Rattle.checks.specs.Moduli.{lentProblem}
 use Rattle.formulas.specs.Terms.{from}
 use Rattle.formulas.proofs.Weighing.{place-fits, row-products, row-size, row-read, modulus-fits, is-weight}
 use Rattle.formulas.proofs.terms.weight.Statement.{statement}
@@ -24,7 +24,7 @@ use Rattle.formulas.proofs.terms.weight.Tie as tie
 
 module _ (c : tie.Start) where
   abbrev P : Problem
-  P = problemOf (c .args .n) (now (c .args .matrix)) (now (c .args .moduli))
+  P = lentProblem (c .args .n) (now (c .args .matrix)) (now (c .args .moduli))
 
   abbrev v : ℕ → ℤ
   v = from (now (c .args .es)) (c .args .start)

@@ -13,7 +13,7 @@ use Rattle.rules.specs.Limits.{powerInRange}
 use Rattle.rules.specs.Search.{none, first}
 use Rattle.theory.proofs.Loops.{first-start, first-more}
 use Rattle.checks.proofs.Values.{held}
-use Rattle.gauges.specs.Held.{entries}
+use Rattle.gauges.specs.Gauging.{entries}
 use Rattle.gauges.proofs.Searched.{found-here, found-none}
 use Rattle.gauges.proofs.values.first_large.Statement.{statement}
 use Rattle.gauges.proofs.values.first_large.Tie as tie

@@ -8,7 +8,7 @@ use denote.Ref.{now}
 use lib.ListN.{length}
 use lib.Ieee.{ofBits}
 use Rattle.rules.specs.Gauges.{read, groupValue}
-use Rattle.gauges.specs.Held.{entries}
+use Rattle.gauges.specs.Gauging.{entries}
 use Rattle.theory.proofs.Operations.{value-none, value-by}
 use Rattle.checks.proofs.Values.{held}
 use Rattle.gauges.proofs.values.product.Statement.{statement}

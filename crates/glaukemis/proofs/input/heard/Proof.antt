@@ -12,7 +12,7 @@ use lib.Signed.{ltZ, nonNeg}
 use mir.Syntax.{w64}
 use mir.Val.{toZ, ofZ}
 use mir.Facts.{toZ-ofZ}
-use Rattle.glaukemis.proofs.Answers.{failed, came, came-fits}
+use Rattle.glaukemis.proofs.ReadAnswers.{failed, came, came-fits}
 use Rattle.glaukemis.proofs.input.heard.Statement.{statement}
 use Rattle.glaukemis.proofs.input.heard.Tie as tie
 

@@ -13,7 +13,7 @@ use mir.Syntax.{w64}
 use mir.Val.{toZ, ofZ}
 use mir.Facts.{toZ-ofZ}
 use Rattle.libc.specs.Io.{Moved}
-use Rattle.glaukemis.proofs.Answers.{stops, Came, goes-on}
+use Rattle.glaukemis.proofs.ReadAnswers.{stops, Came, goes-on}
 use Rattle.glaukemis.proofs.input.read.Statement.{statement}
 use Rattle.glaukemis.proofs.input.read.Tie as tie
 

@@ -8,7 +8,7 @@ use mir.Syntax.{w32}
 use mir.Facts.{toZ-ofZ}
 use Rattle.rules.specs.Problem.{Problem, s}
 use Rattle.theory.proofs.ModulusRows.{modulusRow}
-use Rattle.checks.specs.Moduli.{problemOf}
+use Rattle.checks.specs.Moduli.{lentProblem}
 use Rattle.scaling.proofs.MatrixC.{C-modulus, C-else, quantity-in, C-quantity}
 use Rattle.scaling.proofs.run.entry_of_c.Statement.{statement}
 use Rattle.scaling.proofs.run.entry_of_c.Tie as tie
@@ -30,7 +30,7 @@ opposite-requires c κs = search needs
 
 module _ (b : tie.Start) where
   abbrev problem : Problem
-  problem = problemOf (b .args .n) (b .args .matrix .now) (b .args .moduli .now)
+  problem = lentProblem (b .args .n) (b .args .matrix .now) (b .args .moduli .now)
 
   count : b .args .t4 .s ≡ s problem
   count = b .pre .1 .0 .count

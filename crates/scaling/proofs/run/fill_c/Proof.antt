@@ -9,7 +9,7 @@ use mir.Syntax.{w32}
 use mir.Facts.{toZ-ofZ}
 use Rattle.whole.specs.Lists.{tab}
 use Rattle.rules.specs.Problem.{Problem, N}
-use Rattle.checks.specs.Moduli.{problemOf}
+use Rattle.checks.specs.Moduli.{lentProblem}
 use Rattle.scaling.proofs.Filling.{front-turn}
 use Rattle.scaling.proofs.MatrixC.{entryAt, columns-above, area-above, place-in, filled-holds}
 use Rattle.scaling.proofs.run.fill_c.Statement.{statement}
@@ -17,14 +17,14 @@ use Rattle.scaling.proofs.run.fill_c.Tie as tie
 
 abbrev Inv-loop : tie.InvT-loop
 Inv-loop t₀ n matrix moduli q cols k₀ t k =
-    (k ≤ length moduli * cols) × (length t ≡ length t₀) × (t ≡ tab k (entryAt (problemOf n matrix moduli) cols) ++ drop k t₀)
+    (k ≤ length moduli * cols) × (length t ≡ length t₀) × (t ≡ tab k (entryAt (lentProblem n matrix moduli) cols) ++ drop k t₀)
 
 abbrev μ-loop : tie.MeasureT-loop
 μ-loop t₀ n matrix moduli q cols k₀ t k = length moduli * cols - k
 
 module _ (b : tie.Start Inv-loop μ-loop) where
   abbrev problem : Problem
-  problem = problemOf (b .args .n) (b .args .matrix .now) (b .args .moduli .now)
+  problem = lentProblem (b .args .n) (b .args .matrix .now) (b .args .moduli .now)
 
   abbrev cols : ℕ
   cols = b .args .n + b .args .q .s

@@ -3,7 +3,7 @@ use mathlib.Core.Path.{ap}
 use Prim.Native.Nat.{ℕ, _+_}
 use borrow.Author.Needs.{needs}
 use Rattle.rules.specs.Problem.{Problem}
-use Rattle.checks.specs.Moduli.{problemOf, Lists}
+use Rattle.checks.specs.Moduli.{lentProblem, Lists}
 use Rattle.checks.proofs.Listing.{lists-all}
 use Rattle.scaling.proofs.MatrixC.{columns-above}
 use Rattle.scaling.proofs.Running as Running
@@ -17,7 +17,7 @@ add-cols : tie.Need-add-cols
 add-cols c = search needs
 
 module _ (c : tie.After-modulus-rows) where
-  listed : Lists (problemOf (c .before .args .n) (c .before .args .matrix .now) (c .before .args .moduli .now)) (c .modulus-rows .result)
+  listed : Lists (lentProblem (c .before .args .n) (c .before .args .matrix .now) (c .before .args .moduli .now)) (c .modulus-rows .result)
   listed = lists-all (c .modulus-rows .ensures) (c .before .pre .m-high) (c .before .args .n) (c .before .args .matrix .now)
 
 start-requires : tie.Need-start-requires
@@ -28,7 +28,7 @@ module _ (c : tie.After-start) where
   b = c .before .before
 
   abbrev problem : Problem
-  problem = problemOf (b .args .n) (b .args .matrix .now) (b .args .moduli .now)
+  problem = lentProblem (b .args .n) (b .args .matrix .now) (b .args .moduli .now)
 
   abbrev cols : ℕ
   cols = b .args .n + c .before .modulus-rows .result .s

@@ -15,7 +15,7 @@ use mir.Facts.{toZ-ofZ}
 use Rattle.whole.specs.Lists.{nth}
 use Rattle.rules.specs.Limits.{beyond}
 use Rattle.whole.proofs.Tests.{true-not-false}
-use Rattle.scaling.specs.Flat.{addF, addO, keep, sumAt}
+use Rattle.scaling.specs.Strided.{addF, addO, keep, sumAt}
 use Rattle.scaling.proofs.strided.add.Statement.{statement}
 use Rattle.scaling.proofs.strided.add.Tie as tie
 

@@ -10,7 +10,7 @@ use lib.IntN.{ℤ, negℤ}
 use mir.Syntax.{w32}
 use mir.Facts.{toZ-ofZ}
 use Rattle.whole.specs.Lists.{nth}
-use Rattle.scaling.specs.Flat.{negF, keep}
+use Rattle.scaling.specs.Strided.{negF, keep}
 use Rattle.scaling.proofs.strided.negate.Statement.{statement}
 use Rattle.scaling.proofs.strided.negate.Tie as tie
 

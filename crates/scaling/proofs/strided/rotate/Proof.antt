@@ -10,7 +10,7 @@ use lib.ListN.{length, set, length-set}
 use lib.IntN.{ℤ}
 use mir.Syntax.{w32}
 use mir.Facts.{toZ-ofZ}
-use Rattle.scaling.specs.Flat.{rotateF, rotateFrom}
+use Rattle.scaling.specs.Strided.{rotateF, rotateFrom}
 use Rattle.scaling.proofs.Places.{rotate-in, some-row}
 use Rattle.scaling.proofs.strided.rotate.Statement.{statement}
 use Rattle.scaling.proofs.strided.rotate.Tie as tie

@@ -10,7 +10,7 @@ use lib.IntN.{ℤ}
 use mir.Syntax.{w32}
 use mir.Facts.{toZ-ofZ}
 use Rattle.whole.specs.Lists.{nth}
-use Rattle.scaling.specs.Flat.{swapF}
+use Rattle.scaling.specs.Strided.{swapF}
 use Rattle.scaling.proofs.strided.swap.Statement.{statement}
 use Rattle.scaling.proofs.strided.swap.Tie as tie
 

@@ -12,7 +12,7 @@ use mir.Val.{toZ, ofZ}
 use mir.Facts.{toZ-ofZ}
 use Rattle.scaling.specs.Rows.{left, Ready}
 use Rattle.scaling.proofs.State.{Long}
-use Rattle.scaling.proofs.TableRow.{RowIn, row-of-table, row-short}
+use Rattle.scaling.proofs.TableRow.{RowOfTable, row-of-table, row-short}
 use Rattle.scaling.proofs.Repeating.{GoesOn, two-columns, lo-le-a, q-fits, eliminated-here, goes-on}
 use Rattle.scaling.proofs.work.Work.eliminate.Reads as eliminate
 use Rattle.scaling.proofs.work.Work.eliminate.Kinds as eliminate-kinds
@@ -65,7 +65,7 @@ module _ (t : ℕ) where
   -- the row, after the addition
   table-row : (c : lts.After-table (claims t) (at t) eliminate.Post)
       → let d = c .before .before .before .before in let a = d .before .args in
-      RowIn (a .stage2) (a .m) (a .cols) (a .row) (d .add .result) (now (c .table .result))
+      RowOfTable (a .stage2) (a .m) (a .cols) (a .row) (d .add .result) (now (c .table .result))
   table-row c =
       let d = c .before .before .before .before in let s = d .before in
       row-of-table (s .args .stage2) (s .pre .1 .0) (s .pre .1 .1 .row-in) (long d) (c .table .ensures)

@@ -10,7 +10,7 @@ use mir.Syntax.{w64}
 use mir.Val.{toZ, ofZ}
 use mir.Facts.{toZ-ofZ}
 use Rattle.whole.proofs.Order.{abs-neg}
-use Rattle.scaling.specs.Flat.{Added}
+use Rattle.scaling.specs.Strided.{Added}
 use Rattle.scaling.proofs.State.{Long, fewer, t-in, v-in, w-in, row-start}
 use Rattle.scaling.proofs.Steps.{add-tracks}
 use Rattle.scaling.proofs.work.Work.add.Statement.{statement}

@@ -15,7 +15,7 @@ use Rattle.whole.specs.Lists.{nth}
 use borrow.Author.Tests.{not-true, not-false}
 use Rattle.scaling.specs.Rows.{Pivot}
 use Rattle.scaling.proofs.State.{Long}
-use Rattle.scaling.proofs.TableRow.{RowIn, row-of-table, row-short}
+use Rattle.scaling.proofs.TableRow.{RowOfTable, row-of-table, row-short}
 use Rattle.scaling.proofs.Reducing.{Reduced, pivot-divides, q-small, reduced-already, reduced-now}
 use Rattle.scaling.proofs.Settling.{Reducing, reducing-start, reducing-pivot, reducing-next, reducing-over, reducing-end}
 use Rattle.scaling.proofs.work.Work.reduce_all.Statement.{statement}
@@ -36,7 +36,7 @@ table-requires c κs = search needs
 -- the row at column c, and the pivot there
 table-row : (c : tie.After-table Inv-loop μ-loop)
     → let l = c .before .before .before .before .before in let a = l .before .args in
-    RowIn (a .stage2) (a .m) (a .cols) (a .row) (l .loop .self) (now (c .table .result))
+    RowOfTable (a .stage2) (a .m) (a .cols) (a .row) (l .loop .self) (now (c .table .result))
 table-row c =
     let l = c .before .before .before .before .before in let s = l .before in
     row-of-table (s .args .stage2) (s .pre .0) (s .pre .1 .0 .row-in) (l .loop .inv .long) (c .table .ensures)

@@ -11,10 +11,10 @@ use mir.Val.{toZ, ofZ}
 use mir.Facts.{toZ-ofZ}
 use Rattle.rules.specs.Stages.{bring, makePositive}
 use Rattle.scaling.specs.declared.work.Work.{Work}
-use Rattle.scaling.specs.Join.{stateOf, Same, tableFor}
+use Rattle.scaling.specs.WorkState.{stateOf, Same, tableFor}
 use Rattle.scaling.specs.Rows.{Eliminated, Pivot, AllReduced, RowDone}
 use Rattle.scaling.proofs.State.{Long}
-use Rattle.scaling.proofs.TableRow.{RowIn, row-of-table, row-short}
+use Rattle.scaling.proofs.TableRow.{RowOfTable, row-of-table, row-short}
 use Rattle.scaling.proofs.Repeating.{begun-done, begun-divides, begun-ready}
 use Rattle.scaling.proofs.Reducing.{bring-same, bring-swaps, negative-same, positive-same}
 use Rattle.scaling.proofs.Settling.{brought-pivot, signed-pivot, pivot-divisors, reduced-rest, reduced-none, settled}
@@ -23,7 +23,7 @@ use Rattle.scaling.proofs.work.Work.row.Statement.{statement}
 use Rattle.scaling.proofs.work.Work.row.Tie as tie
 
 -- ---- (A)
-row-1 : (c : tie.After-table) → let a = c .before .before .before .before .args in RowIn (a .stage2) (a .m) (a .cols) (a .k) (a .t1) (now (c .table .result))
+row-1 : (c : tie.After-table) → let a = c .before .before .before .before .args in RowOfTable (a .stage2) (a .m) (a .cols) (a .k) (a .t1) (now (c .table .result))
 row-1 c =
     let s = c .before .before .before .before in
     row-of-table (s .args .stage2) (s .pre .0) (s .pre .1 .row-in) (record { t = search needs; v = search needs; w = search needs }) (c .table .ensures)
@@ -81,7 +81,7 @@ sub-b : tie.Need-sub-b
 sub-b c = let s = c .before .before .before .before .before .before in omega (arith, row-p (s .pre .0) (s .pre .1))
 
 row-2 : (c : tie.After-table2)
-    → let j = c .before .before .before .before in let a = j .before .before .before .before .before .before .args in RowIn (a .stage2) (a .m) (a .cols) (a .k) (j .if1 .self) (now (c .table2 .result))
+    → let j = c .before .before .before .before in let a = j .before .before .before .before .before .before .args in RowOfTable (a .stage2) (a .m) (a .cols) (a .k) (j .if1 .self) (now (c .table2 .result))
 row-2 c =
     let j = c .before .before .before .before in let s = j .before .before .before .before .before .before in
     row-of-table (s .args .stage2) (s .pre .0) (s .pre .1 .row-in) (swept j .2) (c .table2 .ensures)
@@ -125,7 +125,7 @@ brought c =
 
 -- ---- its sign
 row-3 : (c : tie.After-table3)
-    → let j = c .before .before .before .before in let a = j .before .before .before .before .before .before .before .before .before .before .before .before .args in RowIn (a .stage2) (a .m) (a .cols) (a .k) (j .if3 .self) (now (c .table3 .result))
+    → let j = c .before .before .before .before in let a = j .before .before .before .before .before .before .before .before .before .before .before .before .args in RowOfTable (a .stage2) (a .m) (a .cols) (a .k) (j .if3 .self) (now (c .table3 .result))
 row-3 c =
     let j = c .before .before .before .before in let s = j .before .before .before .before .before .before .before .before .before .before .before .before in
     row-of-table (s .args .stage2) (s .pre .0) (s .pre .1 .row-in) (brought j .1) (c .table3 .ensures)
@@ -165,7 +165,7 @@ signed c =
 
 -- ---- the columns after it
 row-4 : (c : tie.After-table4)
-    → let j = c .before .before .before .before in let a = j .before .before .before .before .before .before .before .before .before .before .before .before .before .before .before .before .before .before .args in RowIn (a .stage2) (a .m) (a .cols) (a .k) (j .if4 .self) (now (c .table4 .result))
+    → let j = c .before .before .before .before in let a = j .before .before .before .before .before .before .before .before .before .before .before .before .before .before .before .before .before .before .args in RowOfTable (a .stage2) (a .m) (a .cols) (a .k) (j .if4 .self) (now (c .table4 .result))
 row-4 c =
     let j = c .before .before .before .before in let s = j .before .before .before .before .before .before .before .before .before .before .before .before .before .before .before .before .before .before in
     row-of-table (s .args .stage2) (s .pre .0) (s .pre .1 .row-in) (signed j .1) (c .table4 .ensures)

@@ -2,7 +2,7 @@
 use Prim.Native.Nat.{_*_, _-_}
 use native.Mathlib.Omega.{arith}
 use borrow.Author.Needs.{needs}
-use Rattle.scaling.specs.Join.{entriesFor}
+use Rattle.scaling.specs.WorkState.{entriesFor}
 use Rattle.scaling.specs.Scan.{sizes}
 use Rattle.scaling.proofs.State.{Long}
 use Rattle.scaling.proofs.TableRow.{row-of-table, row-short}

@@ -8,7 +8,7 @@ use borrow.Author.Needs.{needs}
 use lib.ListN.{length}
 use Rattle.scaling.specs.declared.work.Work.{Work}
 use Rattle.scaling.specs.Rows.{Pivot, AllReduced}
-use Rattle.scaling.proofs.TableRow.{RowIn, row-of-v, row-short}
+use Rattle.scaling.proofs.TableRow.{RowOfTable, row-of-v, row-short}
 use Rattle.scaling.proofs.Settling.{pivot-divisors, reduced-rest, reduced-none}
 use Rattle.scaling.proofs.ThirdStage.{Third, third-start, third-end, third-pass, third-pivot, third-apart, third-next, third-over}
 use Rattle.scaling.proofs.work.Work.stage3.Statement.{statement}
@@ -34,7 +34,7 @@ pivot-row-requires c κs =
 
 -- the pivot's row, and what is known where it is there
 row : (c : tie.After-pivot-row Inv-loop μ-loop) → let l = c .before .before .before .before .before in let a = l .before .args in
-    c .pivot-row .result < a .cols → RowIn true (a .m) (a .cols) (c .pivot-row .result) (l .loop .self) (l .loop .self .v)
+    c .pivot-row .result < a .cols → RowOfTable true (a .m) (a .cols) (c .pivot-row .result) (l .loop .self) (l .loop .self .v)
 row c h =
     let l = c .before .before .before .before .before .loop in
     let e : length (l .self .v) ≡ 576 = search needs in

@@ -30,7 +30,7 @@ use Rattle.theory.proofs.Sequence.{Steps, written, steps-counted}
 use Rattle.theory.proofs.Sequence as sequence
 use Rattle.theory.proofs.Flag.{SomeBeyond, over-exactly}
 use Rattle.scaling.specs.declared.BuildAnswer.{BuildAnswer}
-use Rattle.scaling.specs.Answers.{Builds, RoomToBuild}
+use Rattle.scaling.specs.BuildPromise.{Builds, RoomToBuild}
 use Rattle.demands.proofs.Order.{DecidedBy, all-pass-append, taken-exactly}
 use Rattle.demands.proofs.Limits.{five-exactly, flag-exactly, build-room-exactly}
 use Rattle.demands.proofs.Refusals.{checksOfBuild, build-ordered}

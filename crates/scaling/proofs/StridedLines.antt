@@ -2,7 +2,7 @@
 use mathlib.Core.Path.{_≡_, refl, ap, ap₂, sym, _∙_}
 use mathlib.Core.Logic.{_≢_}
 use mathlib.Core.Bool.{Bool, true, false, _||_}
-use mathlib.Core.List.{List, [], _∷_, map}
+use mathlib.Core.List.{List, _∷_, map}
 use Prim.Native.Nat.{ℕ, zero, suc, _+_, _*_, _%_, _<_, _≤_}
 use native.Mathlib.Nat.{suc-mul}
 use native.Mathlib.Omega.{arith}
@@ -15,12 +15,12 @@ use Rattle.whole.proofs.Exchange.{tr, Which, first, second, neither, which?, tr
 use Rattle.rules.specs.Limits.{beyond}
 use Rattle.rules.specs.Steps.{plus, anyBeyond}
 use Rattle.theory.proofs.Range.{beyond-none}
-use Rattle.scaling.specs.Flat.{Within, keep, sumAt, addF, addO, swapF, negF, rotateF}
-use Rattle.scaling.specs.Join.{Small, pick}
+use Rattle.scaling.specs.Strided.{Within, keep, sumAt, addF, addO, swapF, negF, rotateF}
+use Rattle.scaling.specs.WorkState.{Small, pick}
 use Rattle.checks.proofs.Values.{not-beyond}
 use Rattle.scaling.proofs.Values.{kept}
 use Rattle.scaling.proofs.Places.{Layout, cell, rotate-column, rotate-row}
-use Rattle.scaling.proofs.Turns.{addF-kept, addF-reads, addF-made, negF-kept, negF-made, swapF-kept, swapF-first, swapF-second, rotateF-made}
+use Rattle.scaling.proofs.StridedContents.{addF-kept, addF-reads, addF-made, negF-kept, negF-made, swapF-kept, swapF-first, swapF-second, rotateF-made}
 
 -- ---- lists made from a function of the index
 map-tab : (h : ℤ → ℤ) (k : ℕ) (f : ℕ → ℤ) → map h (tab k f) ≡ tab k (λ i. h (f i))

@@ -12,12 +12,12 @@ use Rattle.theory.proofs.Entries.{swap-get, swap-getW, negate-get, nega
 use Rattle.theory.proofs.Reorder.{turn-kept, reorder-count, reorder-get, reorder-getW}
 
 -- u has n lines, and its T, V and W belong together
-pub record Holds (n : ℕ) (C : Matrix) (u : State) : Type 0 where
+pub record Equations (n : ℕ) (C : Matrix) (u : State) : Type 0 where
   pub lines : count u ≡ n
   pub tables : Kept n C (get onT u) (get onV u) (getW u)
 
-module _ (n : ℕ) (C : Matrix) (u : State) (h : Holds n C u) where
-  pub swap-holds : (i j : ℕ) → i < n → j < n → Holds n C (swapStep i j u)
+module _ (n : ℕ) (C : Matrix) (u : State) (h : Equations n C u) where
+  pub swap-holds : (i j : ℕ) → i < n → j < n → Equations n C (swapStep i j u)
   swap-holds i j hi hj =
       let ki : i < count u = omega (arith, h .lines) in
       let kj : j < count u = omega (arith, h .lines) in
@@ -27,7 +27,7 @@ module _ (n : ℕ) (C : Matrix) (u : State) (h : Holds n C u) where
             (swap-kept i j hi hj (h .tables));
       }
 
-  pub negate-holds : (i : ℕ) → i < n → Holds n C (negateStep i u)
+  pub negate-holds : (i : ℕ) → i < n → Equations n C (negateStep i u)
   negate-holds i hi =
       let ki : i < count u = omega (arith, h .lines) in
       record {
@@ -36,7 +36,7 @@ module _ (n : ℕ) (C : Matrix) (u : State) (h : Holds n C u) where
             (negate-kept i (h .tables));
       }
 
-  pub add-holds : (i j : ℕ) (q : ℤ) → i < n → j < n → i ≢ j → Holds n C (addStep i j q u)
+  pub add-holds : (i j : ℕ) (q : ℤ) → i < n → j < n → i ≢ j → Equations n C (addStep i j q u)
   add-holds i j q hi hj d =
       let ki : i < count u = omega (arith, h .lines) in
       let kj : j < count u = omega (arith, h .lines) in
@@ -46,7 +46,7 @@ module _ (n : ℕ) (C : Matrix) (u : State) (h : Holds n C u) where
             (add-kept q i j hi hj d (h .tables));
       }
 
-  pub reorder-holds : (a : ℕ) → a ≤ n → Holds n C (reorder a u)
+  pub reorder-holds : (a : ℕ) → a ≤ n → Equations n C (reorder a u)
   reorder-holds a fit =
       let e : a + (n - a) ≡ n = omega arith in
       record {

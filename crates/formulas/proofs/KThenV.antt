@@ -10,11 +10,11 @@ use lib.IntN.{ℤ, pos, natAbs}
 use Rattle.whole.specs.Lists.{nth}
 use Rattle.whole.proofs.Order.{non-zero-size}
 use Rattle.rules.specs.Problem.{Problem, s, WellFormed}
-use Rattle.rules.specs.Formulas.{kAnd}
+use Rattle.rules.specs.Formulas.{kThenV}
 use Rattle.theory.proofs.ModulusRows.{modulus-row-within, modulus-not-zero}
-use Rattle.theory.proofs.Weights.{kAnd-first}
+use Rattle.theory.proofs.Weights.{kThenV-first}
 use Rattle.checks.specs.declared.ModulusRows.{ModulusRows}
-use Rattle.checks.specs.Moduli.{problemOf, Lists}
+use Rattle.checks.specs.Moduli.{lentProblem, Lists}
 use Rattle.formulas.specs.Terms.{Modulus, HoldsK}
 use Rattle.formulas.specs.declared.terms.Exponents.{Exponents}
 
@@ -44,10 +44,10 @@ begins-more f c xs x b h e l = record {
     size k (no d) = rw (getD-set-other xs c k x (pos 0) d) (b .small k)
 
 -- k alone
-pub begins-k : {P : Problem} {v : ℕ → ℤ} {e : Exponents} {c : ℕ} → HoldsK P v e → length (e .x) ≡ 24 → c ≡ s P → Begins (kAnd P v) (c + 0) (e .x)
+pub begins-k : {P : Problem} {v : ℕ → ℤ} {e : Exponents} {c : ℕ} → HoldsK P v e → length (e .x) ≡ 24 → c ≡ s P → Begins (kThenV P v) (c + 0) (e .x)
 begins-k {P} {v} K l e = record {
   all = l;
-  entries = λ i h. let g : i < s P = omega (arith, e) in K .entries i g ∙ sym (kAnd-first P v i g);
+  entries = λ i h. let g : i < s P = omega (arith, e) in K .entries i g ∙ sym (kThenV-first P v i g);
   small = K .small;
 }
 
@@ -58,10 +58,10 @@ zeros-small (suc n) zero = omega arith
 zeros-small (suc n) (suc k) = zeros-small n k
 
 -- the row that is listed for k's entry c has a modulus
-pub listed-modulus : {n : ℕ} {matrix moduli : List ℤ} {q : ModulusRows} → WellFormed (problemOf n matrix moduli) → Lists (problemOf n matrix moduli) q
-    → (c : ℕ) → c < q .s → Modulus (problemOf n matrix moduli) (getD (q .rows) c 0)
+pub listed-modulus : {n : ℕ} {matrix moduli : List ℤ} {q : ModulusRows} → WellFormed (lentProblem n matrix moduli) → Lists (lentProblem n matrix moduli) q
+    → (c : ℕ) → c < q .s → Modulus (lentProblem n matrix moduli) (getD (q .rows) c 0)
 listed-modulus {n} {matrix} {moduli} F L c h =
-    let P = problemOf n matrix moduli in
+    let P = lentProblem n matrix moduli in
     let l : c < s P = omega (arith, L .count) in
     rw (L .rows c h) (record {
       row = modulus-row-within P (F .moduli) c l;

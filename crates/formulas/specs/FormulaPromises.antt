@@ -15,7 +15,7 @@ use Rattle.rules.specs.Calls.{Weighed, Translated, termRefused, termNumber}
 use Rattle.formulas.specs.declared.WeighAnswer.{WeighAnswer}
 use Rattle.formulas.specs.declared.TranslateAnswer.{TranslateAnswer}
 use Rattle.formulas.specs.declared.terms.Exponents.{Exponents}
-use Rattle.scaling.specs.Join.{Small}
+use Rattle.scaling.specs.WorkState.{Small}
 use Rattle.formulas.specs.Terms.{rowOfW}
 
 -- ---- weigh
@@ -25,7 +25,8 @@ pub record Weighs (b : Weighed) (r : WeighAnswer) (out₁ : List ℤ) : Type 0 w
   pub weights : out₁ ≡ b .weights
 
 -- ---- translate
-pub record Translates (b : Translated) (r : TranslateAnswer) (kept₁ translated₁ : List ℤ) : Type 0 where
+-- of numbers, or of bytes where the call lends bytes
+pub record Translates {A : Type 0} (b : Translated A) (r : TranslateAnswer) (kept₁ translated₁ : List A) : Type 0 where
   pub number : r .number ≡ b .answer .number
   pub place : r .place ≡ b .answer .place
   pub d : r .d ≡ b .answer .d
@@ -36,8 +37,8 @@ pub record RoomToTranslate (kept₀ translated₀ : List ℤ) : Type 0 where
   pub kept : roomCoefficients ≤ length kept₀
   pub translated : roomExponents ≤ length translated₀
 
-abbrev pub formulaOf : (coefficients exponents : List ℤ) → Formula
-formulaOf cs es = record { coefficients = cs; exponents = es }
+abbrev pub lentFormula : (coefficients exponents : List ℤ) → Formula
+lentFormula cs es = record { coefficients = cs; exponents = es }
 
 -- w and r are W and the rank of the problem's run, none of whose steps was beyond M
 pub record Solved (P : Problem) (w : List ℤ) (r : ℕ) : Type 0 where

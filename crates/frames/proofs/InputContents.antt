@@ -14,7 +14,7 @@ use Rattle.rules.specs.Calls.{translateVerdict}
 use Rattle.rules.specs.Bytes.{short, long, shorts}
 use Rattle.rules.specs.Frames.{unhex, TextLine, whole, frameOf, rowModulus, rowEntries, termCoefficient, termExponents, Reading, refusalLine, answered, answerTo}
 use Rattle.frames.specs.declared.read.Input.{Input}
-use Rattle.frames.specs.Input.{problemIn, formulaIn, Sized, Holds, refuses, takes, empty, withRow, withTerm}
+use Rattle.frames.specs.Input.{problemIn, formulaIn, Sized, InputHolds, refuses, takes, empty, withRow, withTerm}
 use Rattle.frames.proofs.Digits.{frame-is, unhex-drop}
 use Rattle.frames.proofs.Numbers.{short-first, long-first, shorts-length}
 use Rattle.frames.proofs.Stored.{number-more, numbers-more, count-more}
@@ -46,7 +46,7 @@ module _ (n : ℕ) (t : List ℕ) where
     exponents-are = sym (rw (term-frame, unhex-drop 5 (2 * n) (5 + 2 * n) t (omega arith)))
 
 -- ---- what an Input holds of some matrix lines and some term lines
-pub record Held (m n : ℕ) (x : Input) (rows terms : List TextLine) : Type 0 where
+pub record LinesHeld (m n : ℕ) (x : Input) (rows terms : List TextLine) : Type 0 where
   pub number : x .number ≡ 0
   pub m-is : x .m ≡ m
   pub n-is : x .n ≡ n
@@ -60,7 +60,7 @@ pub record Held (m n : ℕ) (x : Input) (rows terms : List TextLine) : Type 0 wh
   pub coefficients : take (length terms) (x .coefficients) ≡ map termCoefficient terms
   pub exponents : take (length terms * n) (x .exponents) ≡ join (map (termExponents n) terms)
 
-pub held-none : (m n : ℕ) → Held m n (empty 0 0 m n) [] []
+pub held-none : (m n : ℕ) → LinesHeld m n (empty 0 0 m n) [] []
 unfolding empty
 held-none m n =
     let z : 0 * n ≡ 0 = omega arith in
@@ -79,8 +79,8 @@ held-none m n =
       exponents = rw z;
     }
 
-module _ {m n : ℕ} {x : Input} {rows terms : List TextLine} (x-holds : Held m n x rows terms) (t : List ℕ) (columns : n ≤ 16) where
-  pub held-row : length rows < 8 → 6 + 4 * n ≤ length t → Held m n (withRow (length rows) n t x) (rows ++ whole (take (6 + 4 * n) t) ∷ []) terms
+module _ {m n : ℕ} {x : Input} {rows terms : List TextLine} (x-holds : LinesHeld m n x rows terms) (t : List ℕ) (columns : n ≤ 16) where
+  pub held-row : length rows < 8 → 6 + 4 * n ≤ length t → LinesHeld m n (withRow (length rows) n t x) (rows ++ whole (take (6 + 4 * n) t) ∷ []) terms
   unfolding withRow
   held-row few room =
       let l : TextLine = whole (take (6 + 4 * n) t) in
@@ -101,7 +101,7 @@ module _ {m n : ℕ} {x : Input} {rows terms : List TextLine} (x-holds : Held m 
         exponents = x-holds .exponents;
       }
 
-  pub held-term : length terms < 64 → 10 + 4 * n ≤ length t → Held m n (withTerm (length terms) n t x) rows (terms ++ whole (take (10 + 4 * n) t) ∷ [])
+  pub held-term : length terms < 64 → 10 + 4 * n ≤ length t → LinesHeld m n (withTerm (length terms) n t x) rows (terms ++ whole (take (10 + 4 * n) t) ∷ [])
   unfolding withTerm
   held-term few room =
       let l : TextLine = whole (take (10 + 4 * n) t) in
@@ -123,14 +123,14 @@ module _ {m n : ℕ} {x : Input} {rows terms : List TextLine} (x-holds : Held m 
       }
 
 -- ---- what was read, by its number
-pub number-refuses : {x : Input} {r : Reading} → Holds x r → (x .number ≡ 0 → ⊥) → refusalLine (x .number) (x .place) ≡ answerTo r
+pub number-refuses : {x : Input} {r : Reading} → InputHolds x r → (x .number ≡ 0 → ⊥) → refusalLine (x .number) (x .place) ≡ answerTo r
 number-refuses (refuses h) n = refl
 number-refuses (takes z) n = absurd (n (z .number))
 
-pub number-sized : {x : Input} {r : Reading} → Holds x r → x .number ≡ 0 → Sized x
+pub number-sized : {x : Input} {r : Reading} → InputHolds x r → x .number ≡ 0 → Sized x
 number-sized (refuses h) n = absurd (h n)
 number-sized (takes z) n = z
 
-pub number-takes : {x : Input} {r : Reading} → Holds x r → x .number ≡ 0 → answered (problemIn x) (formulaIn x) (translateVerdict (problemIn x) (formulaIn x) true true) ≡ answerTo r
+pub number-takes : {x : Input} {r : Reading} → InputHolds x r → x .number ≡ 0 → answered (problemIn x) (formulaIn x) (translateVerdict (problemIn x) (formulaIn x) true true) ≡ answerTo r
 number-takes (refuses h) n = absurd (h n)
 number-takes (takes z) n = refl

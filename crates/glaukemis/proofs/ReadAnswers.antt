@@ -17,7 +17,7 @@ use Rattle.libc.specs.Io.{Moved}
 use Rattle.frames.specs.Broken.{blank}
 use Rattle.frames.proofs.Broken.{broken-refused}
 use Rattle.glaukemis.specs.declared.input.Held.{Held}
-use Rattle.glaukemis.specs.Reading.{told, marked, Holds}
+use Rattle.glaukemis.specs.Reading.{told, marked, HeldBytes}
 
 -- ---- by its sign
 abbrev pub Told : (got : ℤ) → (len : ℕ) → (bytes : List ℕ) → Held → (after : List ℕ) → Type 0
@@ -43,10 +43,10 @@ blank-ends bytes len l =
     ap (take (suc len)) (set-split bytes len blank l ∙ sym (append-assoc (take len bytes) (blank ∷ []) (drop (suc len) bytes)))
     ∙ take-at (take len bytes ++ blank ∷ []) (drop (suc len) bytes) (suc len) (omega (arith, length-append (take len bytes) (blank ∷ []), length-take-le len bytes (omega arith)))
 
-pub stops : {x : Held} {after : List ℕ} (got : ℤ) (len : ℕ) (bytes : List ℕ) → Told got len bytes x after → len < length bytes → x .more ≡ false → Holds after x
+pub stops : {x : Held} {after : List ℕ} (got : ℤ) (len : ℕ) (bytes : List ℕ) → Told got len bytes x after → len < length bytes → x .more ≡ false → HeldBytes after x
 stops got len bytes (e, f) l = rw (e, f) (go got)
   where
-    go : (got : ℤ) → told got len .more ≡ false → Holds (marked got len bytes) (told got len)
+    go : (got : ℤ) → told got len .more ≡ false → HeldBytes (marked got len bytes) (told got len)
     go (negsuc k) t =
         record {
           inside = rw length-set (omega arith);

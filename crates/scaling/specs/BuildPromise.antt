@@ -8,7 +8,8 @@ use Rattle.rules.specs.Limits.{roomH, roomV, roomW}
 use Rattle.rules.specs.Calls.{Built}
 use Rattle.scaling.specs.declared.BuildAnswer.{BuildAnswer}
 
-pub record Builds (b : Built) (r : BuildAnswer) (h₁ v₁ w₁ : List ℤ) : Type 0 where
+-- of numbers, or of bytes where the call lends bytes
+pub record Builds {A : Type 0} (b : Built A) (r : BuildAnswer) (h₁ v₁ w₁ : List A) : Type 0 where
   pub number : r .number ≡ b .answer .number
   pub place : r .place ≡ b .answer .place
   pub rank : r .rank ≡ b .answer .rank

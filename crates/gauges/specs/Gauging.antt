@@ -6,7 +6,7 @@ use Prim.Native.Nat.{ℕ, _+_, _*_, _<_, _≤_}
 use lib.ListN.{length}
 use lib.IntN.{ℤ}
 use Rattle.whole.specs.Lists.{nth}
-use Rattle.scaling.specs.Flat.{Within}
+use Rattle.scaling.specs.Strided.{Within}
 use Rattle.rules.specs.Search.{none, found, first}
 use Rattle.rules.specs.Gauges as rules
 use Rattle.rules.specs.Gauges.{value, refusal}

@@ -1,4 +1,4 @@
--- What the lists of specs/Flat hold after their turns, at each place, and that what they hold is small.
+-- What the lists of specs/Strided hold after their turns, at each place, and that what they hold is small.
 use mathlib.Core.Path.{_≡_, refl, ap, sym, _∙_}
 use mathlib.Core.Logic.{_≢_}
 use mathlib.Core.Bool.{Bool}
@@ -12,8 +12,8 @@ use lib.IntN.{ℤ, pos, natAbs, negℤ}
 use Rattle.whole.specs.Lists.{nth}
 use Rattle.whole.proofs.Tests.{Test, pass, fail, lt?}
 use Rattle.rules.specs.Limits.{M}
-use Rattle.scaling.specs.Flat.{Within, keep, sumAt, addF, swapF, negF, rotateFrom, rotateF}
-use Rattle.scaling.specs.Join.{Small}
+use Rattle.scaling.specs.Strided.{Within, keep, sumAt, addF, swapF, negF, rotateFrom, rotateF}
+use Rattle.scaling.specs.WorkState.{Small}
 use Rattle.scaling.proofs.Values.{keep-small}
 use Rattle.scaling.proofs.Places.{Disjoint, once}
 

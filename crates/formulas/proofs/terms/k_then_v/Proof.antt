@@ -1,4 +1,4 @@
--- `formulas::k_and` meets its contract. The loop's invariant: the first s + j entries are those of k followed by v.
+-- `formulas::k_then_v` meets its contract. The loop's invariant: the first s + j entries are those of k followed by v.
 use mathlib.Core.Path.{_≡_, sym, _∙_, ap}
 use Prim.Native.Nat.{ℕ, _+_, _-_, _≤_, _<_}
 use native.Mathlib.Omega.{arith}
@@ -9,24 +9,24 @@ use mir.Facts.{toZ-ofZ}
 use denote.Ref.{now}
 use borrow.Author.Needs.{needs}
 use Rattle.rules.specs.Problem.{Problem}
-use Rattle.rules.specs.Formulas.{kAnd}
-use Rattle.theory.proofs.Weights.{kAnd-rest}
-use Rattle.checks.specs.Moduli.{problemOf}
+use Rattle.rules.specs.Formulas.{kThenV}
+use Rattle.theory.proofs.Weights.{kThenV-rest}
+use Rattle.checks.specs.Moduli.{lentProblem}
 use Rattle.formulas.specs.Terms.{from}
 use Rattle.checks.proofs.Values.{held}
-use Rattle.formulas.proofs.KAndV.{Begins, begins-k, begins-more, zeros-small}
-use Rattle.formulas.proofs.terms.k_and.Statement.{statement}
-use Rattle.formulas.proofs.terms.k_and.Tie as tie
+use Rattle.formulas.proofs.KThenV.{Begins, begins-k, begins-more, zeros-small}
+use Rattle.formulas.proofs.terms.k_then_v.Statement.{statement}
+use Rattle.formulas.proofs.terms.k_then_v.Tie as tie
 
 abbrev Inv-loop : tie.InvT-loop
-Inv-loop n matrix moduli es start e₀ s j₀ e j = (j ≤ n) × Begins (kAnd (problemOf n matrix moduli) (from es start)) (s + j) (e .x)
+Inv-loop n matrix moduli es start e₀ s j₀ e j = (j ≤ n) × Begins (kThenV (lentProblem n matrix moduli) (from es start)) (s + j) (e .x)
 
 abbrev μ-loop : tie.MeasureT-loop
 μ-loop n matrix moduli es start e₀ s j₀ e j = n - j
 
 module _ (c : tie.Start Inv-loop μ-loop) where
   abbrev P : Problem
-  P = problemOf (c .args .n) (now (c .args .matrix)) (now (c .args .moduli))
+  P = lentProblem (c .args .n) (now (c .args .matrix)) (now (c .args .moduli))
 
   abbrev v : ℕ → ℤ
   v = from (now (c .args .es)) (c .args .start)
@@ -42,8 +42,8 @@ module _ (c : tie.After-wide Inv-loop μ-loop) where
   read : toZ w64 (ofZ w64 (c .wide .result)) ≡ v entry j
   read = toZ-ofZ (record { sfits = c .wide .ok }) ∙ c .wide .ensures ∙ held (v entry j) (c .before .wide-arg .given)
 
-  is-next : v entry j ≡ kAnd (P entry) (v entry) (entry .args .q .s + j)
-  is-next = sym (kAnd-rest (P entry) (v entry) j) ∙ ap (λ k. kAnd (P entry) (v entry) (k + j)) (sym (entry .pre .1 .0 .count))
+  is-next : v entry j ≡ kThenV (P entry) (v entry) (entry .args .q .s + j)
+  is-next = sym (kThenV-rest (P entry) (v entry) j) ∙ ap (λ k. kThenV (P entry) (v entry) (k + j)) (sym (entry .pre .1 .0 .count))
 
   in-array : entry .args .q .s + j < 24
   in-array = omega (arith, entry .pre .0 .n-high, entry .pre .1 .0 .few)
@@ -88,15 +88,15 @@ loop-again c =
     let x = toZ w64 (ofZ w64 (c .wide .result)) in
     let one-more : s .args .q .s + (j c + 1) ≡ s .args .q .s + j c + 1 = omega arith in
     let small : natAbs x ≤ 160_000_000 = rw (read c) (omega (arith, s .pre .1 .1 .small (s .args .start + j c))) in
-    (omega arith, rw one-more (begins-more (kAnd (P s) (v s)) (s .args .q .s + j c) (l .e .x) x (l .inv .1) (in-array c) (read c ∙ is-next c) small))
+    (omega arith, rw one-more (begins-more (kThenV (P s) (v s)) (s .args .q .s + j c) (l .e .x) x (l .inv .1) (in-array c) (read c ∙ is-next c) small))
 
 returns : tie.Need-returns Inv-loop μ-loop
 returns c =
     let b = c .before .loop .inv .1 in
     record { entries = λ k h. b .entries k (omega (arith, c .before .before .before .pre .1 .0 .count)); small = b .small }
 
-pub k-and-spec : {M : Type 1} → statement M
-k-and-spec =
+pub k-then-v-spec : {M : Type 1} → statement M
+k-then-v-spec =
     tie.close
     (tie.spec
     Inv-loop
