@@ -1,10 +1,11 @@
-// The bench's C calls: the build and the translation over bytes, each number in four of them, big-endian two's complement; a group from readings over
-// numbers as they are.
+// The bench's C calls: the build and the translation over bytes, each number in four of them, big-endian two's complement; and every call over numbers
+// as they are.
 ghost use Rattle.rules.specs.Bench.{benchBuildOf, benchTranslateOf};
+ghost use Rattle.rules.specs.Calls.{buildOf, weighOf, translateOf};
 ghost use Rattle.rules.specs.Gauges.{lentReadings, gaugeOf, gaugeAnswer};
 ghost use Rattle.checks.specs.Checks.{given};
 ghost use Rattle.scaling.specs.BuildPromise.{Builds};
-ghost use Rattle.formulas.specs.FormulaPromises.{Translates};
+ghost use Rattle.formulas.specs.FormulaPromises.{Weighs, Translates, lentFormula};
 ghost use Rattle.bench.specs.GaugePromise.{Gauges};
 use checks::ROOM_COEFFICIENTS;
 use checks::ROOM_EXPONENTS;
@@ -12,6 +13,7 @@ use checks::ROOM_H;
 use checks::ROOM_V;
 use checks::ROOM_W;
 use formulas::TranslateAnswer;
+use formulas::WeighAnswer;
 use gauges::Gauged;
 use scaling::BuildAnswer;
 
@@ -107,6 +109,61 @@ pub extern "C" fn glaukemis_translate(
     encode(kept, &x, terms);
     encode(translated, &y, terms * r.d as usize);
     r
+}
+
+// Numbers as they are: each call below has the promise of the call that it makes.
+#[no_mangle]
+pub extern "C" fn glaukemis_build_numbers(
+    m: u32,
+    n: u32,
+    matrix: &[i32],
+    moduli: &[i32],
+    h: &mut [i32],
+    v: &mut [i32],
+    w: &mut [i32],
+) -> BuildAnswer
+    ensures { λ r. ⌜ Builds (buildOf (given m n (now (matrix .entry)) (now (moduli .entry))) (now (h .entry)) (now (v .entry)) (now (w .entry))) r (now (h .exit)) (now (v .exit)) (now (w .exit)) ⌝ }
+{
+    scaling::build(m, n, matrix, moduli, h, v, w)
+}
+
+#[no_mangle]
+pub extern "C" fn glaukemis_weigh(
+    m: u32,
+    n: u32,
+    matrix: &[i32],
+    moduli: &[i32],
+    exponents: &[i32],
+    weights: &mut [i32],
+) -> WeighAnswer
+    ensures { λ r. ⌜ Weighs (weighOf (given m n (now (matrix .entry)) (now (moduli .entry))) (now (exponents .entry)) (now (weights .entry))) r (now (weights .exit)) ⌝ }
+{
+    formulas::weigh(m, n, matrix, moduli, exponents, weights)
+}
+
+#[no_mangle]
+pub extern "C" fn glaukemis_translate_numbers(
+    m: u32,
+    n: u32,
+    matrix: &[i32],
+    moduli: &[i32],
+    coefficients: &[i32],
+    exponents: &[i32],
+    kept: &mut [i32],
+    translated: &mut [i32],
+) -> TranslateAnswer
+    ensures { λ r. ⌜ Translates (translateOf (given m n (now (matrix .entry)) (now (moduli .entry))) (lentFormula (now (coefficients .entry)) (now (exponents .entry))) (now (kept .entry)) (now (translated .entry))) r (now (kept .exit)) (now (translated .exit)) ⌝ }
+{
+    formulas::translate(
+        m,
+        n,
+        matrix,
+        moduli,
+        coefficients,
+        exponents,
+        kept,
+        translated,
+    )
 }
 
 // What a group from readings answers, since an enum does not cross to C: the number 0 with the value; or a refusal's number and place with the reading

@@ -28,6 +28,8 @@ use checks::both;
 use checks::modulus_rows;
 use terms::Exponents;
 
+// What weighing answers: the number 0; or a refusal's number and place.
+#[repr(C)]
 pub struct WeighAnswer {
     pub number: u32,
     pub place: u32,
