@@ -6,13 +6,10 @@ use mathlib.Core.List.{List, [], _∷_}
 use Prim.Native.Nat.{ℕ}
 use lib.IntN.{pos, negsuc, negℤ}
 use lib.Ieee.{Float, nan, inf, fin, binary64, ofBits, mul, div, le}
-use Rattle.rules.specs.Search.{first, last, smallest, total, each}
-use Rattle.rules.specs.Problem.{Problem, modulusRowsFrom, columns}
-use Rattle.rules.specs.Steps.{get, getW, step, swapStep, negateStep, addStep, reorder, startLines}
-use Rattle.rules.specs.Stages.{size, next, repeatA, eliminate, reduce, bring, makePositive, settle, row, rows, stage1, stage2, stage3, runOn, run}
+use Rattle.rules.specs.Problem.{Problem}
 use Rattle.rules.specs.Formulas.{group}
-use Rattle.rules.specs.Calls.{firstOut}
 use Rattle.rules.specs.Gauges.{lentReadings, two, nought, Between, operations, groupValue, runningValues, leavesRange, Gauged, value, refusal, gaugeOf, gaugeAnswer}
+use Rattle.rules.proofs.Computing.{calls}
 use Rattle.rules.proofs.Starred.{problem, alone, problem4, problem5, widest}
 
 -- ---- ways of writing
@@ -86,7 +83,7 @@ pub record Computed : Type 0 where
   pub plain-refusal : gaugeAnswer (gauged problem4 (two (pos 3) ∷ below ∷ []) 0) ≡ record { number = 11; place = 1; value = below }
 
 pub computed : Computed
-unfolding first last smallest total each modulusRowsFrom columns get getW step swapStep negateStep addStep reorder startLines size next repeatA eliminate reduce bring makePositive settle row rows stage1 stage2 stage3 runOn run group firstOut operations groupValue runningValues leavesRange gaugeOf ofBits mul div le
+unfolding calls operations groupValue runningValues leavesRange gaugeOf ofBits mul div le
 computed = record {
   value4 = refl;
   value5₀ = refl;

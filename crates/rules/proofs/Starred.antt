@@ -9,16 +9,14 @@ use Prim.Native.String.{String, [] as end, _∷_ as _then_}
 use lib.ListN.{length, replicate}
 use lib.IntN.{ℤ, pos, negsuc, negℤ}
 use Rattle.whole.specs.Lists.{nth, tab}
-use Rattle.whole.specs.Sum.{sum}
-use Rattle.rules.specs.Search.{first, last, smallest, total, each}
-use Rattle.rules.specs.Problem.{Problem, modulusRowsFrom, columns}
-use Rattle.rules.specs.Steps.{State, get, getW, step, swapStep, negateStep, addStep, reorder, startLines}
-use Rattle.rules.specs.Stages.{size, next, repeatA, eliminate, reduce, bring, makePositive, settle, row, rows, stage1, stage2, stage3, runOn, run}
-use Rattle.rules.specs.Formulas.{Formula, rowTimes, remainder, weight, isFree, kOf, kThenV, d, translated, group, passes}
-use Rattle.rules.specs.Calls.{Verdict, taken, refused, firstOut, buildVerdict, weighVerdict, translateVerdict, problemFits, formulaFits, contentsH, contentsV, contentsW, weights, translatedExponents, buildOf, weighOf, translateOf}
-use Rattle.rules.specs.Bytes.{short, long, shorts, longs, bytesOf}
+use Rattle.rules.proofs.Computing.{computing}
+use Rattle.rules.specs.Problem.{Problem}
+use Rattle.rules.specs.Steps.{State, addStep}
+use Rattle.rules.specs.Stages.{row, run}
+use Rattle.rules.specs.Formulas.{Formula, d, group}
+use Rattle.rules.specs.Calls.{Verdict, taken, refused, buildVerdict, translateVerdict, problemFits, formulaFits, contentsH, contentsV, contentsW, weights, translatedExponents, buildOf, weighOf, translateOf}
 use Rattle.rules.specs.Bench.{benchBuildVerdict}
-use Rattle.rules.specs.Frames.{linesOf, digit, unhex, frameOf, isFrame, rowModulus, rowEntries, termCoefficient, termExponents, firstBad, contentsOf, sized, readingOf, digitOf, hex, frame, refusalLine, sizesLine, rowLines, termLines, printed, program}
+use Rattle.rules.specs.Frames.{program}
 
 -- ---- ways of writing
 abbrev -1 : ℤ
@@ -181,7 +179,7 @@ pub record Starred : Type 0 where
   pub group9 : groupOf problem9 0 ≡ pos 1 ∷ pos 1000 ∷ pos 1_000_000 ∷ pos 1_000_000_000 ∷ []
 
 pub starred : Starred
-unfolding bytes sum first last smallest total each modulusRowsFrom columns get getW step swapStep negateStep addStep reorder startLines size next repeatA eliminate reduce bring makePositive settle row rows stage1 stage2 stage3 runOn run rowTimes remainder weight isFree kOf kThenV translated group passes firstOut buildVerdict translateVerdict contentsH contentsV contentsW translatedExponents short long shorts longs bytesOf linesOf digit unhex frameOf isFrame rowModulus rowEntries termCoefficient termExponents firstBad contentsOf sized readingOf digitOf hex frame refusalLine sizesLine rowLines termLines printed program
+unfolding computing bytes
 starred = record {
   accepted1 = refl;
   r1 = refl;
@@ -312,7 +310,7 @@ pub record Traps : Type 0 where
   pub torn-output : benchBuildVerdict 1 1 (255 ∷ 255 ∷ 255 ∷ 251 ∷ []) (replicate 4 0) (replicate 769 0) (replicate 2304 0) (replicate 2304 0) ≡ refused 3 0
 
 pub traps : Traps
-unfolding bytes times sum first last smallest total each modulusRowsFrom columns get getW step swapStep negateStep addStep reorder startLines size next repeatA eliminate reduce bring makePositive settle row rows stage1 stage2 stage3 runOn run rowTimes remainder weight isFree kOf kThenV translated group passes firstOut buildVerdict weighVerdict translateVerdict contentsH contentsV contentsW weights translatedExponents buildOf weighOf translateOf short long shorts longs bytesOf benchBuildVerdict linesOf digit unhex frameOf isFrame rowModulus rowEntries termCoefficient termExponents firstBad contentsOf sized readingOf digitOf hex frame refusalLine sizesLine rowLines termLines printed program
+unfolding computing bytes times
 traps = record {
   floored = refl;
   upward = refl;
