@@ -11,7 +11,7 @@ use crate::model::{Problem, MOST_QUANTITIES, MOST_ROWS, MOST_TERMS};
 use crate::problems;
 use crate::random::Random;
 
-/// A problem within document 01's limits, of any shape and kind.
+/// A problem within the limits of R2.1 to R2.3, of any shape and kind.
 pub fn problem(random: &mut Random) -> Problem {
     if random.one_in(25) {
         return near_m(random);

@@ -1,5 +1,5 @@
-//! A drop-in for document 01's program: all of standard input in, the lines of
-//! the answer out.
+//! A drop-in for the program of section 9 of the rules: all of standard input in,
+//! the lines of the answer out.
 
 use std::io::{Read, Write};
 

@@ -1,14 +1,14 @@
-//! Document 01 in plain Rust with wide whole numbers: the problem and its
-//! matrix C, weights and translation. The modules below hold the written steps
-//! (`steps`), the calls with their checks (`calls`), the program's lines
-//! (`lines`) and document 02's groups from the gauges (`gauges`).
+//! The rules in plain Rust with wide whole numbers: the problem and its matrix C
+//! (section 5), weights and translation (8). The modules below hold the written
+//! steps (`steps`, 7), the calls with their checks (`calls`, 2 to 4), the program's
+//! lines (`lines`, 9) and the groups from the gauges (`gauges`, 22).
 
 pub mod calls;
 pub mod gauges;
 pub mod lines;
 pub mod steps;
 
-/// M of document 01.
+/// M of R2.8.
 pub const M: i128 = 2_147_483_647;
 
 /// The largest m and n, and the largest number of terms.
@@ -34,8 +34,8 @@ pub fn refused(number: u32, place: usize) -> Refusal {
     }
 }
 
-/// "m rows (dimensions) by n columns (quantities) of whole numbers, with one
-/// modulus for each row"; the matrix row after row.
+/// R1.1: a row for each dimension, a column for each quantity; the matrix row
+/// after row.
 #[derive(Clone, Debug, PartialEq, Eq)]
 pub struct Problem {
     pub m: usize,
@@ -87,8 +87,8 @@ impl Problem {
         self.n + self.s()
     }
 
-    /// C: for each row with a modulus p a column that is -p in that row and 0
-    /// elsewhere, these before the quantity columns.
+    /// C (R5.2, R5.3): a column with -p for each row that has a modulus p, these
+    /// before the quantity columns.
     pub fn c(&self) -> Matrix {
         let modulus_rows = self.modulus_rows();
         (0..self.m)
@@ -113,8 +113,8 @@ impl Problem {
             .sum()
     }
 
-    /// The weight of v in row i: the row times v; with a modulus the remainder
-    /// of that by the modulus, with the dividend's sign.
+    /// The weight of v in row i (R8.1, R8.2). A remainder of Rust's has the sign
+    /// of the dividend.
     pub fn weight(&self, i: usize, v: &[i32]) -> i128 {
         let product = self.row_times(i, v);
         match i128::from(self.moduli[i]) {
@@ -123,13 +123,13 @@ impl Problem {
         }
     }
 
-    /// "v is free of dimension when every weight is 0."
+    /// R8.3.
     pub fn is_free(&self, v: &[i32]) -> bool {
         (0..self.m).all(|i| self.weight(i, v) == 0)
     }
 
-    /// "k followed by v": k holds, for each row with a modulus, the row times v
-    /// divided by the modulus. Only for a free v, so that the division is exact.
+    /// R8.4: the numbers of k, then v. Only for a free v, so that each division
+    /// by a modulus comes out even.
     pub fn k_followed_by(&self, v: &[i32]) -> Vec<i128> {
         assert!(self.is_free(v));
         let k = self
@@ -139,8 +139,7 @@ impl Problem {
         k.chain(v.iter().map(|&x| i128::from(x))).collect()
     }
 
-    /// The translated exponents of a free v: the last d rows of W times k
-    /// followed by v.
+    /// R8.5: the translated exponents of a free v.
     pub fn translated(&self, w: &Matrix, rank: usize, v: &[i32]) -> Vec<i128> {
         let full = self.k_followed_by(v);
         w[rank..]

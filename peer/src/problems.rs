@@ -1,4 +1,4 @@
-//! Document 01's known problems, and as unit tests their stated results.
+//! The known problems of the rules, R10.1 to R10.13, and as unit tests their results.
 
 use crate::model::Problem;
 
@@ -44,7 +44,7 @@ pub fn eight() -> Problem {
     Problem::of_rows(&[&[6, 0, -4, 1, 3], &[0, 3, 1, -4, 3]], &[0, 0])
 }
 
-/// `rows` rows with 1000 on the diagonal and -1 right of it.
+/// R10.9 and R10.10 with so many rows.
 fn thousands(rows: usize) -> Problem {
     let n = rows + 1;
     let mut matrix = vec![0; rows * n];
@@ -79,7 +79,7 @@ pub fn twelve() -> Problem {
     )
 }
 
-/// One row of two entries; document 01 names none but 1000 and 1001.
+/// One row of two entries; R10.13 names none but 1000 and 1001.
 pub fn thirteen(entries: [i32; 2]) -> Problem {
     Problem::of_rows(&[&entries], &[0])
 }
@@ -111,7 +111,7 @@ mod tests {
         rows.iter().map(|row| row.to_vec()).collect()
     }
 
-    /// The groups: the last d columns of V, cut to the quantity rows.
+    /// The groups (R6.6).
     fn groups(problem: &Problem, built: &Built) -> Vec<Vec<i128>> {
         (built.rank..problem.columns())
             .map(|j| built.v[problem.s()..].iter().map(|row| row[j]).collect())
@@ -182,7 +182,7 @@ mod tests {
         let built = built(&five());
         verify::term(&five(), built.rank, &flat(&built.v), &[2, 2, 1], &[0, 2, 1])
             .expect("round trip");
-        // "Leaving k out of a translation: problem 6 would give (-2, 2, 1)."
+        // R12.3: without k it is (-2, 2, 1).
         verify::term(
             &five(),
             built.rank,
@@ -262,7 +262,7 @@ mod tests {
         assert_eq!(refusal, refused(6, 0));
     }
 
-    /// "Errors that look right": the floor right of the pivot.
+    /// R12.1: the floor right of the pivot.
     #[test]
     fn floor_right_of_the_pivot() {
         let built = built(&Problem::of_rows(&[&[3, -2], &[0, 1]], &[0, 0]));
@@ -354,7 +354,7 @@ mod tests {
                 place: 0
             }
         );
-        // The dividend's sign.
+        // R8.2: the sign of the dividend.
         assert_eq!(out, [-2, 77, 77, 77, 77, 77, 77, 77, 77]);
         let refusal = |number, place| WeighAnswer { number, place };
         let mut weigh = |m, matrix: &[i32], moduli: &[i32], exponents: &[i32], size: usize| {

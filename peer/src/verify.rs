@@ -1,6 +1,6 @@
-//! Checks an answer by itself, from document 01's definitions and without its
-//! steps: whatever made H, V and W, they are right exactly when these checks
-//! pass (only the count of steps is not a matter of the definitions).
+//! Checks an answer by itself, from section 6 of the rules and without the steps:
+//! whatever made H, V and W, they are right exactly when these checks pass (only
+//! the count of steps is no matter of that section).
 
 pub mod gauges;
 

@@ -32,7 +32,7 @@ pub data Says (number place : ℕ) : Verdict → Type 0 where
 pub record TellsTo5 (m n : ℕ) (matrix moduli : List ℤ) (more outputs : Bool) (r : Refusal) : Type 0 where
   pub says : Says (r .number) (r .place) (verdict (checksTo5 (given m n matrix moduli) (problemFits (given m n matrix moduli) && more) outputs))
 
--- "exponents n per term; more than 64 terms"
+-- R4.2: n exponents for each term, and at most 64 terms
 abbrev pub termsFit : (n terms exponents : ℕ) → Bool
 termsFit n terms exponents = eqb exponents (terms * n) && leb terms mostTerms
 

@@ -15,7 +15,7 @@ use parts::formula_fits;
 use parts::problem_fits;
 use parts::sizes_in_range;
 
-// Document 01's limits, and the least lengths of outputs.
+// The limits of R2.1 to R2.6, and the least lengths of outputs (R2.9).
 pub const M: i64 = 2147483647;
 
 pub const MINUS_M: i64 = -2147483647;

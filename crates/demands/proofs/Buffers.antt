@@ -1,5 +1,4 @@
--- Lent buffers: "On success the first entries are filled without gaps, row after row, and those after them are untouched." What a filled buffer
--- keeps.
+-- Lent buffers (R2.10): what a filled buffer holds at its front, and what it keeps behind that.
 use mathlib.Core.Path.{_≡_, _∙_}
 use mathlib.Core.List.{List}
 use Prim.Native.Nat.{ℕ, _≤_}

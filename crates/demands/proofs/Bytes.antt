@@ -1,4 +1,4 @@
--- "each number as four bytes, big-endian two's complement": what is written in bytes is read back, number for number, and what stands after it in the
+-- R1.4, numbers in four bytes: what is written in bytes is read back, number for number, and what stands after it in the
 -- buffer is as it was. (bytesOf writes, numbersOf reads: rules/specs/Bytes.)
 use mathlib.Core.Path.{_≡_, sym, _∙_, ap, ap₂, subst}
 use mathlib.Core.Bool.{Bool, false}

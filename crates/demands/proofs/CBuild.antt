@@ -1,4 +1,4 @@
--- Demands 1 and 2 of glaukemis_build, "on numbers and byte slices" (document 01, "What the work covers").
+-- Demands 1 and 2 of glaukemis_build, over bytes (R1.4).
 -- Demand 1 is of the bytes. A call whose byte lengths are multiples of four does to the numbers that the bytes are (numbersOf of rules/specs/Bytes) what
 -- `build` promises, so that demand 2 is of those numbers.
 --
@@ -38,7 +38,7 @@ use Rattle.demands.proofs.NormalForms.{Answered, width, all-pass-exactl
 use Rattle.demands.proofs.Bytes.{numbers-filled, bytes-keep, H-fits, V-fits, W-fits}
 
 -- ---- glaukemis_build: demand 1
--- its checks: "those two calls refuse a byte length that is no multiple of four as a length fault (2 for an input, 3 for an output)"
+-- its checks, with R1.5: a buffer that ends inside a number has a wrong length
 abbrev pub inputsOfCBuild : (m n : ℕ) (matrix moduli : List ℕ) → Bool
 inputsOfCBuild m n matrix moduli = wholeNumbers matrix && wholeNumbers moduli && problemFits (problemOf m n matrix moduli)
 
@@ -221,7 +221,7 @@ module _ (m n : ℕ) (matrix moduli h v w : List ℕ) (r : BuildAnswer) (h₁ v�
         w-whole = O .w-room .0;
       }
 
-  -- demand 2: "An accepted problem yields ..", in the numbers that the bytes are
+  -- demand 2, in the numbers that the bytes are
   pub c-build-answered : r .number ≡ 0
       → Answered (problemOf m n matrix moduli) (numbersOf h) (numbersOf v) (numbersOf w) r (numbersOf h₁) (numbersOf v₁) (numbersOf w₁)
   c-build-answered e =
@@ -250,7 +250,7 @@ module _ (m n : ℕ) (matrix moduli h v w : List ℕ) (r : BuildAnswer) (h₁ v�
             (omega (arith, lW, room-for-W P L, A .1 .w, length-longs (numbersIn w) w)));
       }
 
-  -- demand 2, range: "refused for range exactly when the written steps .. write one beyond 2,147,483,647 either way", else taken
+  -- demand 2, range: refused 7 exactly when a written step writes a number beyond M, else taken
   pub c-range-exactly : WholeToBuild matrix moduli h v w → WellFormed (problemOf m n matrix moduli) → RoomToBuild (numbersOf h) (numbersOf v) (numbersOf w)
       → (r .number ≡ 7) ↔ SomeBeyond (written (run-steps (problemOf m n matrix moduli)))
   c-range-exactly F G R =

@@ -1,4 +1,4 @@
--- Demands 1 and 3 of glaukemis_translate, "on numbers and byte slices" (document 01, "What the work covers").
+-- Demands 1 and 3 of glaukemis_translate, over bytes (R1.4).
 -- Demand 1 is of the bytes. A call whose byte lengths are multiples of four does to the numbers that the bytes are (numbersOf of rules/specs/Bytes) what
 -- `translate` promises, so that demand 3 is of those numbers.
 --
@@ -42,7 +42,7 @@ use Rattle.demands.proofs.Bytes.{AllFit, numbers-filled, bytes-keep, nu
 use Rattle.demands.proofs.CBuild.{Whole, RoomIn, whole-exactly, room-exactly, room-same, c-build-is-build, c-build-whole}
 
 -- ---- demand 1
--- its checks: "those two calls refuse a byte length that is no multiple of four as a length fault (2 for an input, 3 for an output)"
+-- its checks, with R1.5: a buffer that ends inside a number has a wrong length
 abbrev pub inputsOfCTranslate : (m n : ℕ) (matrix moduli cs es : List ℕ) → Bool
 inputsOfCTranslate m n matrix moduli cs es =
     wholeNumbers matrix && wholeNumbers moduli && wholeNumbers cs && wholeNumbers es
@@ -221,7 +221,7 @@ module _ (m n : ℕ) (matrix moduli cs es kept out : List ℕ) (a : TranslateAns
       }
 
   -- ---- demand 3
-  -- "it is translated exactly if each term is free of dimension and no translated exponent passes 2,147,483,647 either way"
+  -- translated exactly when all terms are free and none has a translated exponent beyond M
   pub c-translated-exactly : WholeToTranslate matrix moduli cs es kept out
       → Asked (problemOf m n matrix moduli) (formulaOf cs es) (numbersOf kept) (numbersOf out)
       → (a .number ≡ 0) ↔ ((t : ℕ) → t < terms (formulaOf cs es) → Translatable (problemOf m n matrix moduli) (term (problemOf m n matrix moduli) (formulaOf cs es) t))
@@ -234,7 +234,7 @@ module _ (m n : ℕ) (matrix moduli cs es kept out : List ℕ) (a : TranslateAns
   c-else-term-refused F A =
       else-term-refused P f (numbersOf kept) (numbersOf out) a (numbersOf kept₁) (numbersOf out₁) (c-translate-is-translate F) A
 
-  -- "coefficients and order kept", in the numbers that the bytes are
+  -- coefficients and order are kept, in the numbers that the bytes are
   pub c-formula-translated : a .number ≡ 0
       → FormulaTranslated (problemOf m n matrix moduli) (formulaOf cs es) (numbersOf kept) (numbersOf out) a (numbersOf kept₁) (numbersOf out₁)
   c-formula-translated e =
@@ -266,14 +266,14 @@ module _ (m n : ℕ) (matrix moduli cs es kept out : List ℕ) (a : TranslateAns
     translated-numbers : Translates (translateOf P f (numbersOf kept) (numbersOf out)) a (numbersOf kept₁) (numbersOf out₁)
     translated-numbers = c-translate-is-translate (c-translate-whole done)
 
-    -- "Put each group's exponents back where the group stands, and the first formula returns, term for term"
+    -- the groups to the translated exponents give each term back
     pub c-first-formula-returns : (t j : ℕ) → t < terms (formulaOf cs es) → j < n
         → backIn (problemOf m n matrix moduli) r (numbersOf v₁) (a .d) (λ g. nth (numbersOf out₁) (t * a .d + g)) j ≡ nth (numbersOf es) (t * n + j)
     c-first-formula-returns =
         first-formula-returns P (numbersOf h) (numbersOf v) (numbersOf w) r (numbersOf h₁) (numbersOf v₁) (numbersOf w₁) built-numbers built
         f (numbersOf kept) (numbersOf out) a (numbersOf kept₁) (numbersOf out₁) translated-numbers done
 
-    -- "No other whole exponents on the groups do that for any term."
+    -- and no other whole exponents do
     pub c-no-other-exponents : (t : ℕ) → t < terms (formulaOf cs es) → (e : ℕ → ℤ)
         → ((j : ℕ) → j < n → backIn (problemOf m n matrix moduli) r (numbersOf v₁) (a .d) e j ≡ nth (numbersOf es) (t * n + j))
         → (g : ℕ) → g < a .d → e g ≡ nth (numbersOf out₁) (t * a .d + g)

@@ -1,11 +1,10 @@
--- Demand 3: "For every accepted problem and every formula of at most 64 terms with exponents from -10,000 to 10,000, lent room enough: it is translated
--- exactly if each term is free of dimension and no translated exponent passes 2,147,483,647 either way. Put each group's exponents back where the
--- group stands, and the first formula returns, term for term, coefficients and order kept. No other whole exponents on the groups do that for any
--- term."
+-- Demand 3: a formula within the limits, for an accepted problem and with room enough, is translated exactly when all its terms are free of dimension
+-- and none of them has a translated exponent beyond M. The groups to the exponents that come out give each term back, with its coefficient and in its
+-- place; no other whole exponents give it.
 --
 -- `translates` is what translate's `ensures` says and `builds` what build's says; P is the problem and f the formula as they were given; kept and out
 -- are the lent outputs before the translation, kept₁ and out₁ after it.
--- Accepted is of NormalForms, Free and translated (document 01's translated exponents) of rules/specs/Formulas.
+-- Accepted is of NormalForms, Free and translated (R8.5) of rules/specs/Formulas.
 use mathlib.Core.Path.{_≡_, refl, sym, _∙_, ap, ap₂, subst}
 use mathlib.Core.Logic.{_≢_, _↔_}
 use mathlib.Core.Bool.{_&&_}
@@ -42,13 +41,13 @@ use Rattle.demands.proofs.Refusals.{Ordered, TranslateRefused, checksOf
 use Rattle.demands.proofs.Buffers.{KeepsRest, filled-keeps}
 use Rattle.demands.proofs.NormalForms.{Accepted, width, build-answered}
 
--- ---- "every accepted problem and every formula of at most 64 terms with exponents from -10,000 to 10,000, lent room enough"
+-- ---- what demand 3 asks of its input: an accepted problem, a formula within R2.5 and R2.6, room enough
 pub record Asked (P : Problem) (f : Formula) (kept out : List ℤ) : Type 0 where
   pub accepted : Accepted P
   pub formula : WellFormedFormula P f
   pub room : RoomToTranslate kept out
 
--- ---- "free of dimension and no translated exponent passes 2,147,483,647 either way"; there are d = N - r of them
+-- ---- a term that is free of dimension, and whose d = N - r translated exponents are within M
 abbrev pub Translatable : Problem → (ℕ → ℤ) → Type 0
 Translatable P v = Free P v × ((g : ℕ) → g < N P - run P .rank → natAbs (translated P (run P) v g) ≤ M)
 
@@ -56,9 +55,9 @@ Translatable P v = Free P v × ((g : ℕ) → g < N P - run P .rank → natAbs (
 pub record FormulaTranslated (P : Problem) (f : Formula) (kept out : List ℤ) (a : TranslateAnswer) (kept₁ out₁ : List ℤ) : Type 0 where
   pub asked : Asked P f kept out
   pub free : (t : ℕ) → t < terms f → Free P (term P f t)
-  -- "the translation returns d"
+  -- R2.11
   pub groups : a .d ≡ N P - run P .rank
-  -- "The coefficient is kept": all of them, in order, and what stands after them is untouched
+  -- R8.6: all coefficients, in order, and what stands after them is untouched
   pub coefficients : kept₁ ≡ f .coefficients ++ drop (terms f) kept
   -- d exponents for each term, term after term, and what stands after them is untouched
   pub exponents : (t g : ℕ) → t < terms f → g < a .d → nth out₁ (t * a .d + g) ≡ translated P (run P) (term P f t) g
@@ -103,7 +102,7 @@ module _ (P : Problem) (f : Formula) (kept out : List ℤ) where
     λ x. all-pass-append seven (termsCheck P (run P) f ∷ []) .1 (seven-pass-exactly .1 (x .0), (all-terms-exactly P (run P) f .1 (x .1), tt)),
   )
 
--- ---- "it is translated exactly if each term is free of dimension and no translated exponent passes 2,147,483,647 either way"
+-- ---- translated exactly when all terms are free and none has a translated exponent beyond M
 module _ (P : Problem) (f : Formula) (kept out : List ℤ) (a : TranslateAnswer) (kept₁ out₁ : List ℤ)
     (translates : Translates (translateOf P f kept out) a kept₁ out₁) where
   pub translated-exactly : Asked P f kept out → (a .number ≡ 0) ↔ ((t : ℕ) → t < terms f → Translatable P (term P f t))
@@ -139,7 +138,7 @@ module _ (P : Problem) (f : Formula) (kept out : List ℤ) (a : TranslateAnswer)
       let p = translate-ordered P f kept out a kept₁ out₁ translates .accepts-exactly .0 e in
       subst (λ (x : Verdict). Translates (translatedTo P f kept out x) a kept₁ out₁) (taken-exactly (checksOfTranslate P f kept out) .1 p) translates
 
-  -- "coefficients and order kept"
+  -- coefficients and order are kept
   pub formula-translated : a .number ≡ 0 → FormulaTranslated P f kept out a kept₁ out₁
   unfolding translatedExponents
   formula-translated e =
@@ -158,8 +157,8 @@ module _ (P : Problem) (f : Formula) (kept out : List ℤ) (a : TranslateAnswer)
             (omega (arith, l, room-for-exponents P ((A .0 .accepted .well-formed)) (run-right P) f (A .0 .formula .few), A .0 .room .translated)));
       }
 
--- ---- back: "Put each group's exponents back where the group stands"
--- "The groups are the last d columns of V, cut to the quantity rows": the exponent of quantity j in group g, where the build left it
+-- ---- back: what the groups to given exponents come to
+-- R6.6: the exponent of quantity j in group g, where the build left it
 abbrev pub groupIn : Problem → BuildAnswer → (v₁ : List ℤ) → (g j : ℕ) → ℤ
 groupIn P r v₁ g j = nth v₁ ((r .moduli + j) * width P r + (r .rank + g))
 
@@ -216,7 +215,7 @@ module _ (P : Problem) (h v w : List ℤ) (r : BuildAnswer) (h₁ v₁ w₁ : Li
     pub as-many-groups : a .d ≡ width P r - r .rank
     as-many-groups = formula-translated P f kept out a kept₁ out₁ translates done .groups ∙ sym groups-are
 
-    -- "and the first formula returns, term for term"
+    -- each term comes back
     pub first-formula-returns : (t j : ℕ) → t < terms f → j < P .n
         → backIn P r v₁ (a .d) (λ g. nth out₁ (t * a .d + g)) j ≡ nth (f .exponents) (t * P .n + j)
     first-formula-returns t j i b =
@@ -225,7 +224,7 @@ module _ (P : Problem) (h v w : List ℤ) (r : BuildAnswer) (h₁ v₁ w₁ : Li
         ∙ back-is (λ g. nth out₁ (t * a .d + g)) (translated P (run P) (term P f t)) (λ g c. F .exponents t g i (omega (arith, as-many-groups))) j b
         ∙ translated-back P (run P) (run-right P) (term P f t) (F .free t i) j b
 
-    -- "No other whole exponents on the groups do that for any term."
+    -- by no other whole exponents
     pub no-other-exponents : (t : ℕ) → t < terms f → (e : ℕ → ℤ)
         → ((j : ℕ) → j < P .n → backIn P r v₁ (a .d) e j ≡ nth (f .exponents) (t * P .n + j))
         → (g : ℕ) → g < a .d → e g ≡ nth out₁ (t * a .d + g)

@@ -1,4 +1,4 @@
--- Order 2, groups from the gauges, in the order of its sentences. Each theorem follows from what a call promises of its answer, x ≡ gaugeOf P R g:
+-- Section 22 of the rules, groups from the gauges (order 2). Each theorem follows from what a call promises of its answer, x ≡ gaugeOf P R g:
 -- of gauges::gauge x is what its answer says (told), of glaukemis_gauge its fields are those of the answer in plain numbers (c-gauge below).
 -- P is the problem, R the set of readings and g the group's number as they were given, whatever they are.
 -- The definitions that the theorems speak of stand in rules/specs/Gauges; `positive` (lib.Ieee) says of a number that it is finite and above zero.
@@ -60,7 +60,7 @@ pub record Asked (P : Problem) (R : Readings) (g : ℕ) : Type 0 where
   pub running : Every (λ r. isOut r ≡ false) (runningOf P R g)
 
 -- ---- the checks that are this order's own: for each when it finds no fault, and when it finds one at a place
--- 2: the lengths of the problem, and a count other than n
+-- R22.10, 2: the lengths of the problem, and a count other than n
 abbrev pub GaugeLengths : Problem → Readings → Type 0
 GaugeLengths P R = ProblemLengths P × (R .count ≡ P .n)
 
@@ -71,7 +71,7 @@ gauge-lengths-exactly P R =
 pub row-2-gauge : (P : Problem) (R : Readings) → Row (inputsCheck (problemFits P && eqb (R .count) (P .n))) 2 (GaugeLengths P R) (NotAt 0 (GaugeLengths P R))
 row-2-gauge P R = row-at 0 2 (problemFits P && eqb (R .count) (P .n)) (GaugeLengths P R) (gauge-lengths-exactly P R)
 
--- 11: each of the first n readings is finite and above zero; the place is the first that is not
+-- R22.6, 11: each of the first n readings is finite and above zero; the place is the first that is not
 module _ (n : ℕ) (x : ℕ → Float) where
   abbrev bad : ℕ → Bool
   bad j = not (positive (x j))
@@ -86,11 +86,11 @@ module _ (n : ℕ) (x : ℕ → Float) where
     given-exactly = found-exactly bad n;
   }
 
--- 24: the group is one of d; the place is its number
+-- R22.7, 24: the group is one of d; the place is its number
 pub row-24 : (d g : ℕ) → Row (groupCheck d g) 24 (g < d) (NotAt g (g < d))
 row-24 d g = row-at g 24 (ltb g d) (g < d) (ltb-true g d, lt-ltb g d)
 
--- 12: its exponents are within 64; the place is its number
+-- R22.8, 12: its exponents are within 64; the place is its number
 module _ (n : ℕ) (v : ℕ → ℤ) (g : ℕ) where
   abbrev large : ℕ → Bool
   large j = not (powerInRange (v j))
@@ -111,7 +111,7 @@ module _ (n : ℕ) (v : ℕ → ℤ) (g : ℕ) where
   pub row-12 : Row (powersCheck n v g) 12 ((j : ℕ) → j < n → natAbs (v j) ≤ 64) (NotAt g ((j : ℕ) → j < n → natAbs (v j) ≤ 64))
   row-12 = row-at g 12 (isNone (first large 0 n)) Small small-exactly
 
--- 13: no running value is zero, infinite or a NaN; the place is the group's number
+-- R22.9, 13: no running value is zero, infinite or a NaN; the place is the group's number
 none-out : (l : List Float) → (not (some isOut l) ≡ true) ↔ Every (λ r. isOut r ≡ false) l
 none-out [] = (λ _. tt, λ _. refl)
 none-out (r ∷ l) = go (isOut r) refl (none-out l)
@@ -227,7 +227,7 @@ module _ (P : Problem) (R : Readings) (g : ℕ) where
         ∙ ap value (value-same (P .n) (exponents P g) (groupIn P b v₁ g) (reading R) (reading R)
         (λ j l. sym (group-is P h v w b h₁ v₁ w₁ builds built g j (rw (groups-are P h v w b h₁ v₁ w₁ builds built) (A .there)) l)) (λ j l. refl))
 
--- ---- exact on powers of two: the reading of quantity j is 2 ^ e j, and the value has the exponent that the whole numbers add up to. Nothing is asked of
+-- ---- R22.4, exact on powers of two: the reading of quantity j is 2 ^ e j, and the value has the exponent that the whole numbers add up to. Nothing is asked of
 -- the size of a reading, so subnormal ones, from 2^-1074 on, are included.
 pub record PowersOfTwo (P : Problem) (R : Readings) (g : ℕ) (e : ℕ → ℤ) : Type 0 where
   pub accepted : Accepted P

@@ -1,4 +1,4 @@
--- Document 01, "Lines the program reads and prints": when a line of the input is of its form, which line is the first that is bad or missing, and what
+-- R9.1 to R9.6: when a line of the input is of its form, which line is the first that is bad or missing, and what
 -- the lines of a good input say. Each line is told by its number, from 0.
 use mathlib.Core.Path.{_≡_, refl, subst}
 use mathlib.Core.Logic.{_↔_}
@@ -20,7 +20,7 @@ use Rattle.rules.specs.Frames.{rowModulus, rowEntries, termCoefficient, termExp
 use Rattle.theory.proofs.Accepted.{Sizes}
 use Rattle.demands.proofs.Limits.{both}
 
--- ---- a frame: "lower-case hexadecimal, two digits a byte, a newline after each line"
+-- ---- a frame: R9.1
 -- 0 to 9 or a to f
 pub data IsDigit (b : ℕ) : Type 0 where
   numeral : 48 ≤ b → b ≤ 57 → IsDigit b
@@ -96,15 +96,14 @@ framed? its-kind count l = go (isFrame its-kind count l) (framed-exactly its-kin
 abbrev pub lineAt : List TextLine → ℕ → TextLine
 lineAt ls p = getD ls p (torn [])
 
--- what line 0 says: "`01` m n (one byte each)"
+-- R9.2: what line 0 says
 abbrev pub mSaid : List TextLine → ℕ
 mSaid ls = byteAt (frameOf (lineAt ls 0)) 1
 
 abbrev pub nSaid : List TextLine → ℕ
 nSaid ls = byteAt (frameOf (lineAt ls 0)) 2
 
--- line 0 tells the sizes; "then m lines `02`, modulus, n entries, two bytes each"; "then 0 to 64 lines `03`, coefficient in four bytes, n exponents
--- in two"; and no line after them is of any form
+-- line 0 tells the sizes; then m rows (R9.3); then at most 64 terms (R9.4); and no line after them is of any form
 pub data OfForm (m n p : ℕ) (l : TextLine) : Type 0 where
   of-sizes : p ≡ 0 → Framed 0x01 3 l → OfForm m n p l
   of-row : 1 ≤ p → p ≤ m → Framed 0x02 (1 + 2 + 2 * n) l → OfForm m n p l
@@ -119,7 +118,7 @@ form-number (of-term a b F) = b
 abbrev pub GoodLine : List TextLine → ℕ → Type 0
 GoodLine ls p = (p < length ls) × OfForm (mSaid ls) (nSaid ls) p (lineAt ls p)
 
--- "not of this form, or missing": line 0 and m lines after it have to be there
+-- bad or missing: line 0 and m lines after it have to be there
 pub data BadLine (ls : List TextLine) (p : ℕ) : Type 0 where
   missing : length ls ≤ p → p ≤ mSaid ls → BadLine ls p
   not-of-form : p < length ls → ¬ OfForm (mSaid ls) (nSaid ls) p (lineAt ls p) → BadLine ls p
@@ -137,7 +136,7 @@ pub past-64-is-bad : {ls : List TextLine} {p : ℕ} → p < length ls → mSaid 
 past-64-is-bad h k = not-of-form h (λ F. omega (arith, form-number F))
 
 -- ---- the three kinds of input
--- 10 at line p: "Sizes are judged right after the first line (refusal 1); else the first line not of this form, or missing, is refusal 10"
+-- R9.6. 10 at line p: it is the first that is bad or missing, and if it is not line 0, the sizes are good
 pub record FirstBadLine (ls : List TextLine) (p : ℕ) : Type 0 where
   pub before : (q : ℕ) → q < p → GoodLine ls q
   pub sizes : 1 ≤ p → Sizes (mSaid ls) (nSaid ls)

@@ -72,7 +72,7 @@ module _ (ls : List TextLine) (F : WellFormedInput ls) where
       getD-drop m (drop 1 ls) t (torn []) ∙ getD-drop 1 ls (m + t) (torn [])
       ∙ ap (λ (k : ℕ). lineAt ls k) (omega arith)
 
-  -- ---- refusal 2 cannot come: "matrix m·n, moduli m, coefficients one and exponents n per term; more than 64 terms"
+  -- ---- refusal 2 cannot come: the lengths are those of R4.2
   pub lengths-fit : FormulaLengths (problemSaid ls) (formulaSaid ls)
   lengths-fit =
       let cs : terms (formulaSaid ls) ≡ length formulaLines = length-map formulaLines termCoefficient in (

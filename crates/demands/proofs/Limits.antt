@@ -1,5 +1,5 @@
--- Demand 1: "Bad sizes, short buffers and numbers beyond their limits". Document 01, the table of checks, 1 to 7: each test is passed exactly when
--- the limits hold, and a problem passes 1, 2, 4 and 5 exactly when it is well formed.
+-- Demand 1, the limits. R4.1 to R4.7: each test is passed exactly when the limits hold, and a problem passes 1, 2, 4 and 5 exactly when it is well
+-- formed.
 use mathlib.Core.Path.{_≡_, refl, ap}
 use mathlib.Core.Logic.{_↔_}
 use mathlib.Core.Bool.{Bool, true, false, not, _&&_}
@@ -40,11 +40,11 @@ unless-exactly b = (unless-none b, λ e. ap unless e)
 pub at-least : (least k : ℕ) → (leb least k ≡ true) ↔ (least ≤ k)
 at-least least k = (leb-true least k, le-leb least k)
 
--- ---- 1: "m is 1 to 8; n is 1 to 16"
+-- ---- 1: R2.1
 pub sizes-exactly : (m n : ℕ) → (sizesInRange m n ≡ true) ↔ Sizes m n
 sizes-exactly m n = (sizes-passed m n, λ S. both (both (le-leb 1 m (S .m-low)) (le-leb m 8 (S .m-high))) (both (le-leb 1 n (S .n-low)) (le-leb n 16 (S .n-high))))
 
--- ---- 2: "matrix m·n, moduli m, coefficients one and exponents n per term; more than 64 terms"
+-- ---- 2: the lengths of R4.2
 pub problem-fits-exactly : (P : Problem) → (problemFits P ≡ true) ↔ ((length (P .matrix) ≡ P .m * P .n) × (length (P .moduli) ≡ P .m))
 problem-fits-exactly P = (
   lengths-passed P,
@@ -58,7 +58,7 @@ formula-fits-exactly P f = (
   λ l. both (eq-eqb (length (f .exponents)) (terms f * P .n) (l .0)) (le-leb (terms f) mostTerms (l .1)),
 )
 
--- ---- 3: "H at least 192 entries, V and W 576 each, weights 8, translated coefficients 64, translated exponents 1,024"
+-- ---- 3: the room of R2.9
 pub build-room-exactly : (h v w : List ℤ) → (leb roomH (length h) && leb roomV (length v) && leb roomW (length w) ≡ true) ↔ RoomToBuild h v w
 build-room-exactly h v w = (
   λ e.
@@ -76,7 +76,7 @@ translate-room-exactly kept out = (
   λ R. both (le-leb roomCoefficients (length kept) (R .kept)) (le-leb roomExponents (length out) (R .translated)),
 )
 
--- ---- 4, 5 and 6: "moduli 0 to 1000", "entries -1000 to 1000", "formula exponents -10,000 to 10,000"
+-- ---- 4, 5 and 6: R2.3, R2.2 and R2.6
 true-of : (b : Bool) → T b → b ≡ true
 true-of true t = refl
 true-of false t = absurd t
@@ -97,7 +97,7 @@ entry-exactly z = either-way 1000 z
 pub exponent-exactly : (z : ℤ) → (exponentInRange z ≡ true) ↔ (natAbs z ≤ 10_000)
 exponent-exactly z = either-way 10_000 z
 
--- order 2, 12: from -64 to 64
+-- 12: R22.8
 pub power-exactly : (z : ℤ) → (powerInRange z ≡ true) ↔ (natAbs z ≤ 64)
 power-exactly z = either-way 64 z
 
@@ -108,7 +108,7 @@ modulus-exactly z = (
   λ h. both (leZ-is (pos 0) z (h .0)) (leZ-is z (pos 1000) (omega (zarith, h .1, parts z))),
 )
 
--- ---- 7: "a step of the build writes a value beyond M either way", which the run's flag tells
+-- ---- 7: what the run's flag tells
 pub flag-exactly : (u : Run) → (rangeCheck u .fault ≡ none) ↔ (u .state .over ≡ false)
 flag-exactly u = (λ e. not-true (u .state .over) (unless-none (not (u .state .over)) e), λ o. rw o)
 

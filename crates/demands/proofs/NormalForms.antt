@@ -1,6 +1,5 @@
--- Demand 2: "An accepted problem yields the Hermite form and the normal multiplier as Hubert and Labahn define them, with the inverse on both sides.
--- There is one right answer and it is that one. A well-formed problem is refused for range exactly when the written steps, done on whole numbers,
--- write one beyond 2,147,483,647 either way."
+-- Demand 2: what an accepted problem gives is right in the sense of section 6 of the rules (the Hermite form, the normal multiplier and its inverse),
+-- and nothing else is right. Refusal 7 comes for a well-formed problem exactly when one of its steps writes a number beyond M.
 --
 -- `promise` is what build's `ensures` says; P is the problem as it was given; h, v, w are the lent outputs before the call and h₁, v₁, w₁ after it.
 -- WellFormed is of rules/specs/Problem, Right (H in column Hermite form, V normal, W its inverse) of rules/specs/Forms.
@@ -48,16 +47,16 @@ width P r = P .n + r .moduli
 
 pub record Answered (P : Problem) (h v w : List ℤ) (r : BuildAnswer) (h₁ v₁ w₁ : List ℤ) : Type 0 where
   pub accepted : Accepted P
-  -- "the count s of non-zero moduli"
+  -- R5.1
   pub moduli : r .moduli ≡ s P
-  -- "the Hermite form and the normal multiplier .., with the inverse on both sides", each read from its buffer row after row
+  -- section 6: H, V and W are right, each read from its buffer row after row
   pub right : Right P (r .rank) (table (width P r) h₁) (table (width P r) v₁) (table (width P r) w₁)
-  -- "There is one right answer and it is that one": whatever is right for P has this rank and these entries
+  -- R6.7: whatever is right for P has this rank and these entries
   pub only : (r′ : ℕ) (H′ U′ W′ : Matrix) → Right P r′ H′ U′ W′
       → Alike (P .m) (width P r) r′ (r .rank) H′ (table (width P r) h₁) U′ (table (width P r) v₁) W′ (table (width P r) w₁)
-  -- "the number of column steps": of the written steps, which run-steps P lists, and of any other list that leads to the same end
+  -- R7.5: the number of the written steps, which run-steps P lists, and of any other list that leads to the same end
   pub steps : (x : Steps (N P) (start (columns P)) (run P .state)) → r .steps ≡ sequence.taken x
-  -- "(H with its zero columns m·N, V and W N·N ..), and those after them are untouched"
+  -- R2.10: what stands behind the contents is as it was
   pub rest-of-h : KeepsRest (P .m * width P r) h h₁
   pub rest-of-v : KeepsRest (width P r * width P r) v v₁
   pub rest-of-w : KeepsRest (width P r * width P r) w w₁
@@ -110,8 +109,7 @@ module _ (P : Problem) (h v w : List ℤ) (r : BuildAnswer) (h₁ v₁ w₁ : Li
       let a = build-ordered P h v w r h₁ v₁ w₁ promise .accepts-exactly .0 e in
       subst (λ (x : Verdict). Builds (built P h v w x) r h₁ v₁ w₁) (taken-exactly (checksOfBuild P h v w) .1 a) promise
 
-  -- "An accepted problem yields the Hermite form and the normal multiplier .., with the inverse on both sides. There is one right answer and it is
-  -- that one."
+  -- an accepted problem gives what is right, and nothing else is
   pub build-answered : r .number ≡ 0 → Answered P h v w r h₁ v₁ w₁
   unfolding contentsH contentsV contentsW
   build-answered e =
@@ -141,7 +139,7 @@ module _ (P : Problem) (h v w : List ℤ) (r : BuildAnswer) (h₁ v₁ w₁ : Li
         rest-of-w = rw (k, B .w) (filled-keeps (N P * N P) (contentsW P) w lW (omega (arith, lW, room-for-W P L, A .1 .w)));
       }
 
--- "A well-formed problem is refused for range exactly when the written steps, done on whole numbers, write one beyond 2,147,483,647 either way."
+-- R4.7: a well-formed problem is refused 7 exactly when a step writes a number beyond M.
 -- The written steps of P are its run, and run-steps P lists them, with the reordering among them, from the start to the end. `x` is any such list: no
 -- other that leads to the same end would say anything else.
 module _ (P : Problem) (h v w : List ℤ) (r : BuildAnswer) (h₁ v₁ w₁ : List ℤ) (promise : Builds (buildOf P h v w) r h₁ v₁ w₁)

@@ -1,4 +1,4 @@
--- Document 01: "Two results allowed by one promise are shown equal". Of each call: two answers with what they leave in the lent buffers, both as the
+-- R11.2: a promise allows one result. Of each call: two answers with what they leave in the lent buffers, both as the
 -- call's `ensures` says of one input, are the same answer with the same contents.
 use mathlib.Core.Path.{_≡_, refl, sym, _∙_}
 use mathlib.Core.Bool.{Bool}

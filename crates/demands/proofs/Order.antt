@@ -1,4 +1,4 @@
--- Demand 1: "refused by number, in the fixed order". Document 01: "Checks go in the order of the numbers".
+-- Demand 1, the order of the checks: section 3 of the rules.
 -- What the verdict of a list of checks is, in words without recursion: the first check of the list that finds a fault decides, and a call is taken
 -- exactly when none does.
 use mathlib.Core.Path.{_≡_, refl, sym, _∙_, ap, subst}
@@ -127,7 +127,7 @@ decider-has Q cs all k p D = rw (← D .its-number) (go (D .before) (rw (D .list
     go [] a = a .0 p (D .its-place)
     go (b ∷ before) a = go before (a .1)
 
--- ---- places: "first such row", "first such entry, row after row", "first such exponent", "first term refused"
+-- ---- places: the first fault of a list
 -- the test holds at i and at no lower index
 pub record FirstAt (test : ℕ → Bool) (hi i : ℕ) : Type 0 where
   pub within : i < hi
@@ -197,7 +197,7 @@ module _ (good : ℤ → Bool) (xs : List ℤ) where
     λ h. none-found out (length xs) (λ i l. ap not (h i l)),
   )
 
--- ---- 8 and 9: "In one term 8 comes before 9; between terms the lower term decides."
+-- ---- 8 and 9: R3.4
 -- 8: the term is not free of dimension; 9: it is, and one of its translated exponents is beyond M
 pub data TermFault (P : Problem) (u : Run) (v : ℕ → ℤ) : (number : ℕ) → Type 0 where
   not-free : ¬ Free P v → TermFault P u v 8
@@ -307,7 +307,7 @@ pub translate-checks : (P : Problem) (f : Formula) (inputs outputs : Bool)
 unfolding translateVerdict
 translate-checks P f inputs outputs = refl
 
--- ---- their numbers: "The build gives 1 to 5 and 7; weights 1 to 6; translation 1 to 9."
+-- ---- their numbers: R3.2
 abbrev pub numbers : List Check → List ℕ
 numbers cs = map (λ (c : Check). c .number) cs
 

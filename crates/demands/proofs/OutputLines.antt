@@ -1,4 +1,4 @@
--- "One frame a line: lower-case hexadecimal, two digits a byte, a newline after each line, the last too": what is printed is read back, line for line
+-- R9.1, printed: what is printed is read back, line for line
 -- and byte for byte, by the same definitions by which the program's input is read (linesOf, frameOf, numbersOf of rules/specs).
 use mathlib.Core.Path.{_≡_, refl, sym, _∙_, ap, ap₂}
 use mathlib.Core.Bool.{Bool, true, false, cond, true≢false}
@@ -146,7 +146,7 @@ frame-framed kind bs a =
     (both (both (eq-eqb (length (hex l)) (2 * (1 + length bs)) (omega (arith, hex-length l))) (hex-digits l a))
     (eq-eqb (byteAt (frameOf (whole (hex l))) 0) kind (ap (λ (t : List ℕ). byteAt t 0) (frame-back l a))))
 
--- ---- a line of numbers: its kind, and behind it whole numbers, "four bytes a number"
+-- ---- a line of numbers: its kind, and behind it whole numbers of four bytes (R9.10)
 abbrev pub numbersOn : TextLine → List ℤ
 numbersOn l = numbersOf (drop 1 (frameOf l))
 

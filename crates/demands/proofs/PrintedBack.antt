@@ -1,6 +1,5 @@
--- Demands 2 and 3 of the program, from its input and what it printed alone: H, V and W as printed are the right ones, and "Put each group's exponents
--- back where the group stands, and the first formula returns, term for term, coefficients and order kept. No other whole exponents on the groups do
--- that for any term."
+-- Demands 2 and 3 of the program, from its input and what it printed alone: H, V and W as printed are the right ones; the groups to the printed
+-- exponents give each term of the input back, with its coefficient and in its place; and no other whole exponents give it.
 --
 -- `promise` is what the `ensures` of frames::answer says; `done` that the first printed line is of the kind `81`, so that the input was taken. ls are
 -- the lines of the input and out the printed ones; lines, rows, columns, groups and terms count from 0.
@@ -40,7 +39,7 @@ use Rattle.demands.proofs.ReadBack.{SolutionLines}
 use Rattle.demands.proofs.Printout.{Taken, refusal-printed, solution-printed, solution-exactly}
 
 -- ---- what is read off the printed lines
--- "`81` m n s r (a byte each)"
+-- R9.7
 abbrev pub mOn : List TextLine → ℕ
 mOn out = byteAt (frameOf (lineAt out 0)) 1
 
@@ -57,7 +56,7 @@ widthOn out = byteAt (frameOf (lineAt out 0)) 2 + sOn out
 abbrev pub groupsOn : List TextLine → ℕ
 groupsOn out = widthOn out - rOn out
 
--- "`82` the rows of H with N entries; `83` of V; `84` of W"
+-- R9.8
 abbrev pub hOn : List TextLine → Matrix
 hOn out i j = nth (numbersOn (lineAt out (1 + i))) j
 
@@ -67,7 +66,7 @@ vOn out i j = nth (numbersOn (lineAt out (1 + mOn out + i))) j
 abbrev pub wOn : List TextLine → Matrix
 wOn out i j = nth (numbersOn (lineAt out (1 + mOn out + widthOn out + i))) j
 
--- "`85` for each term its coefficient and d exponents"
+-- R9.9
 abbrev pub termOn : List TextLine → (t : ℕ) → TextLine
 termOn out t = lineAt out (1 + mOn out + widthOn out + widthOn out + t)
 
@@ -77,12 +76,11 @@ coefficientOn out t = nth (numbersOn (termOn out t)) 0
 abbrev pub exponentOn : List TextLine → (t g : ℕ) → ℤ
 exponentOn out t g = nth (numbersOn (termOn out t)) (suc g)
 
--- "The groups are the last d columns of V, cut to the quantity rows": the exponent of quantity j in the product of the groups to the exponents e
+-- R6.6: the exponent of quantity j in the product of the groups to the exponents e
 abbrev pub backOn : List TextLine → (e : ℕ → ℤ) → (j : ℕ) → ℤ
 backOn out e j = sum (groupsOn out) (λ g. vOn out (sOn out + j) (rOn out + g) *ℤ e g)
 
--- ---- demand 2, of the printed lines: "the Hermite form and the normal multiplier .., with the inverse on both sides. There is one right answer and it is
--- that one."
+-- ---- demand 2, of the printed lines: they are right for the problem (section 6), and nothing else is
 pub record ProblemPrinted (P : Problem) (out : List TextLine) : Type 0 where
   pub accepted : Accepted P
   pub m-is : mOn out ≡ P .m
@@ -90,7 +88,7 @@ pub record ProblemPrinted (P : Problem) (out : List TextLine) : Type 0 where
   pub width-is : widthOn out ≡ N P
   pub right : Right P (rOn out) (hOn out) (vOn out) (wOn out)
   pub only : (r′ : ℕ) (H′ U′ W′ : Matrix) → Right P r′ H′ U′ W′ → Alike (P .m) (N P) r′ (rOn out) H′ (hOn out) U′ (vOn out) W′ (wOn out)
-  -- "and the step count (four bytes)": of the written steps, which run-steps P lists, and of any other list that leads to the same end
+  -- the count of the written steps, which run-steps P lists, and of any other list that leads to the same end
   pub steps : (x : Steps (N P) (start (columns P)) (run P .state)) → long (drop 5 (frameOf (lineAt out 0))) ≡ pos (sequence.taken x)
 
 -- ---- the same by the definitions
@@ -187,11 +185,11 @@ module _ (input : List ℕ) (r : Text) (promise : Shows r (program input)) (done
     within : t < terms f
     within = omega (arith, terms-said ls good)
 
-    -- "coefficients and order kept"
+    -- coefficients and order are kept
     pub coefficient-kept : coefficientOn (linesOf (shown r)) t ≡ termCoefficient (lineAt (linesOf input) (1 + mSaid (linesOf input) + t))
     coefficient-kept = ap (λ (zs : List ℤ). nth zs 0) (term-reads P f out its-lines t within) ∙ coefficient-said ls good t within
 
-    -- "and the first formula returns, term for term"
+    -- each term comes back
     pub printed-formula-returns : (j : ℕ) → j < nSaid (linesOf input)
         → backOn (linesOf (shown r)) (exponentOn (linesOf (shown r)) t) j
         ≡ nth (termExponents (nSaid (linesOf input)) (lineAt (linesOf input) (1 + mSaid (linesOf input) + t))) j
@@ -200,7 +198,7 @@ module _ (input : List ℕ) (r : Text) (promise : Shows r (program input)) (done
         ∙ translated-back P (run P) (run-right P) (term P f t) (is-taken .its-terms t within .0) j b
         ∙ term-said ls good t within j b
 
-    -- "No other whole exponents on the groups do that for any term."
+    -- by no other whole exponents
     pub no-other-printed : (e : ℕ → ℤ)
         → ((j : ℕ) → j < nSaid (linesOf input) → backOn (linesOf (shown r)) e j
         ≡ nth (termExponents (nSaid (linesOf input)) (lineAt (linesOf input) (1 + mSaid (linesOf input) + t))) j)

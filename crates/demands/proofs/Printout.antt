@@ -124,7 +124,7 @@ module _ (input : List ℕ) (r : Text) (promise : Shows r (program input)) where
           rw (e .0, e .1) A
       go R taken A = absurd (refusal-not-solution R (solution-printed A))
 
-  -- 10: "the first line not of this form, or missing", and that line's number
+  -- 10: the first line that is bad or missing, and that line's number
   pub bad-line-exactly : (p : ℕ) → OneRefusal 10 p (linesOf (shown r)) ↔ FirstBadLine (linesOf input) p
   bad-line-exactly p = (λ R. go (refusal-exactly 10 p .0 R), λ B. refusal-printed 10 p (refused-10 p B))
     where
@@ -143,7 +143,7 @@ module _ (input : List ℕ) (r : Text) (promise : Shows r (program input)) where
       go d (yes h) = not-of-form h (λ F. d (h, F))
       go d (no h) = missing (omega arith) (omega arith)
 
-  -- 1: "Sizes are judged right after the first line", whatever comes after it
+  -- 1: the sizes are judged after line 0, whatever comes after it
   pub bad-sizes-exactly : (p : ℕ) → OneRefusal 1 p (linesOf (shown r)) ↔ (SizesRefused (linesOf input) × (p ≡ 0))
   bad-sizes-exactly p = (λ R. go (refusal-exactly 1 p .0 R), λ S. rw (S .1) (refusal-printed 1 0 (refused-1 (S .0))))
     where

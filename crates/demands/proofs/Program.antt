@@ -1,4 +1,4 @@
--- Demand 1 of the program: "refused by number, in the fixed order". Document 01, "Lines the program reads and prints".
+-- Demand 1 of the program: the order in which its input is judged (R9.6).
 --
 -- `promise` is what the `ensures` of frames::answer says, whatever the input's bytes are; `shown r` is the text that it printed. InputLines tells the
 -- three kinds of input: a line is bad or missing, the sizes are out of range, or every line is of its form. In the third kind the problem and the

@@ -1,5 +1,5 @@
 -- What the program prints says the numbers of the definitions, exactly: each line is of its form, and its bytes are read back as those numbers, none cut
--- off. (Document 01, "Lines the program reads and prints", the output.)
+-- off. (R9.7 to R9.11.)
 use mathlib.Core.Path.{_≡_, refl, sym, _∙_, ap, ap₂}
 use mathlib.Core.List.{List, [], _∷_, _++_}
 use Prim.Native.Nat.{ℕ, zero, suc, _+_, _-_, _*_, _/_, _%_, _≤_, _<_}
@@ -32,7 +32,7 @@ use Rattle.demands.proofs.Formulas.{Translatable}
 use Rattle.demands.proofs.InputLines.{Framed, lineAt}
 use Rattle.demands.proofs.OutputLines.{AllBytes, is-byte, all-lines, frame-prints, both-print, rows-print, terms-print, frame-back, frame-framed, NumbersLine, numbers-line}
 
--- ---- "A refusal prints one line only: `ff`, the number in one byte, the place in two."
+-- ---- a refusal: R9.11
 pub record RefusalLine (number place : ℕ) (l : TextLine) : Type 0 where
   pub framed : Framed 0xff 4 l
   pub number-is : byteAt (frameOf l) 1 ≡ number
@@ -65,7 +65,7 @@ pub one-refusal-read : {k p k′ p′ : ℕ} {out : List TextLine} → OneRefusa
 one-refusal-read R Q =
     (sym (R .line .number-is) ∙ Q .line .number-is, sym (R .line .place-is) ∙ Q .line .place-is)
 
--- ---- "`81` m n s r (a byte each) and the step count (four bytes)"
+-- ---- the first line: R9.7
 pub record SizesLine (m n its-s r steps : ℕ) (l : TextLine) : Type 0 where
   pub framed : Framed 0x81 9 l
   pub m-is : byteAt (frameOf l) 1 ≡ m
@@ -97,11 +97,11 @@ sizes-line m n its-s r steps a b c e h =
 pub record SolutionLines (P : Problem) (f : Formula) (out : List TextLine) : Type 0 where
   pub count : length out ≡ 1 + P .m + N P + N P + terms f
   pub sizes : SizesLine (P .m) (P .n) (s P) (run P .rank) (run P .state .steps) (lineAt out 0)
-  -- "`82` the rows of H with N entries; `83` of V; `84` of W"
+  -- R9.8
   pub h-rows : (i : ℕ) → i < P .m → NumbersLine 0x82 (tab (N P) (λ j. H (run P) i j)) (lineAt out (1 + i))
   pub v-rows : (i : ℕ) → i < N P → NumbersLine 0x83 (tab (N P) (λ j. U (run P) i j)) (lineAt out (1 + P .m + i))
   pub w-rows : (i : ℕ) → i < N P → NumbersLine 0x84 (tab (N P) (λ j. W (run P) i j)) (lineAt out (1 + P .m + N P + i))
-  -- "`85` for each term its coefficient and d exponents"
+  -- R9.9
   pub its-terms : (t : ℕ) → t < terms f
       → NumbersLine 0x85 (nth (f .coefficients) t ∷ tab (d P (run P)) (λ g. translated P (run P) (term P f t) g)) (lineAt out (1 + P .m + N P + N P + t))
 

@@ -1,5 +1,5 @@
--- Demand 1: "Every call ends on every input. Bad sizes, short buffers and numbers beyond their limits are refused by number, in the fixed order, and
--- a refusal changes nothing that was lent."
+-- Demand 1: each call has one answer, whatever it is given. What is at fault is told by a number and a place, in the order of section 3 of the rules,
+-- and a refused call leaves every lent buffer alone.
 --
 -- That every call ends is what the prover shows of each function before it counts as proved: every loop and every call of itself has a number that
 -- falls. None of the calls has a `requires`, so their promises hold on every input, and what stands here follows from a promise alone, for all m, n,
@@ -73,7 +73,7 @@ module _ (checks : List Check) (number place : ℕ) (Refused : Type 0) (decides 
 abbrev pub checksOfBuild : Problem → (h v w : List ℤ) → List Check
 checksOfBuild P h v w = buildChecks P (problemFits P) (leb roomH (length h) && leb roomV (length v) && leb roomW (length w))
 
--- "A refusal returns its number and place, zero in every other field, and every lent buffer holds what it held."
+-- R3.5
 pub record BuildRefused {A : Type 0} (checks : List Check) (h v w : List A) (r : BuildAnswer) (h₁ v₁ w₁ : List A) : Type 0 where
   pub decided : DecidedBy checks (r .number) (r .place)
   pub rank : r .rank ≡ 0

@@ -1,5 +1,5 @@
--- Demand 1: "Bad sizes, short buffers and numbers beyond their limits are refused by number". Document 01's table of refusals, row by row: for each check
--- when it finds no fault, and when it finds one at a place. (Order: the first check of a call that finds a fault decides.)
+-- Demand 1: section 4 of the rules, the table of refusals, row by row. For each check: when it finds no fault, and when it finds one at a place. (Order:
+-- the first check of a call that finds a fault decides.)
 use mathlib.Core.Path.{_≡_, refl, sym, _∙_, ap}
 use mathlib.Core.Logic.{_≢_, _↔_}
 use mathlib.Core.Bool.{Bool, true, false, not, _&&_, true≢false, false≢true}
@@ -100,11 +100,11 @@ row-first number test Good e xs = record {
     fails true e d = absurd (d (e .0 refl))
     fails false e d = refl
 
--- ---- 1: "m or n is out of range"
+-- ---- R4.1
 pub row-1 : (P : Problem) → Row (sizesCheck P) 1 (Sizes (P .m) (P .n)) (NotAt0 (Sizes (P .m) (P .n)))
 row-1 P = row-at 0 1 (sizesInRange (P .m) (P .n)) (Sizes (P .m) (P .n)) (sizes-exactly (P .m) (P .n))
 
--- ---- 2: "a lent input has the wrong length (matrix m·n, moduli m, coefficients one and exponents n per term; more than 64 terms)"
+-- ---- R4.2
 abbrev pub ProblemLengths : Problem → Type 0
 ProblemLengths P = (length (P .matrix) ≡ P .m * P .n) × (length (P .moduli) ≡ P .m)
 
@@ -134,7 +134,7 @@ pub row-2-translate : (P : Problem) (f : Formula)
     → Row (inputsCheck (problemFits P && formulaFits P f)) 2 (FormulaLengths P f) (NotAt0 (FormulaLengths P f))
 row-2-translate P f = row-at 0 2 (problemFits P && formulaFits P f) (FormulaLengths P f) (formula-lengths-exactly P f)
 
--- ---- 3: "a lent output is shorter than its size below"
+-- ---- R4.3
 pub row-3-build : (h v w : List ℤ)
     → Row (outputsCheck (leb roomH (length h) && leb roomV (length v) && leb roomW (length w))) 3 (RoomToBuild h v w) (NotAt0 (RoomToBuild h v w))
 row-3-build h v w = row-at 0 3 (leb roomH (length h) && leb roomV (length v) && leb roomW (length w)) (RoomToBuild h v w) (build-room-exactly h v w)
@@ -148,7 +148,7 @@ pub row-3-translate : (kept out : List ℤ)
 row-3-translate kept out =
     row-at 0 3 (leb roomCoefficients (length kept) && leb roomExponents (length out)) (RoomToTranslate kept out) (translate-room-exactly kept out)
 
--- ---- 4, 5 and 6: "a modulus is out of range", "a matrix entry is out of range", "a formula exponent is out of range"; the place is the first such
+-- ---- R4.4, R4.5 and R4.6; the place is the first such
 abbrev pub GoodModulus : ℤ → Type 0
 GoodModulus z = (pos 0 ≤ℤ z) × (natAbs z ≤ 1000)
 
@@ -167,7 +167,7 @@ row-5 P = row-first 5 entryInRange GoodEntry entry-exactly (P .matrix)
 pub row-6 : (es : List ℤ) → Row (exponentsCheck es) 6 (AllGood GoodExponent es) (FirstBad GoodExponent es)
 row-6 es = row-first 6 exponentInRange GoodExponent exponent-exactly es
 
--- ---- 7: "a step of the build writes a value beyond M either way"
+-- ---- R4.7
 pub row-7 : (P : Problem)
     → Row (rangeCheck (run P)) 7 (¬ SomeBeyond (written (run-steps P))) (λ place. SomeBeyond (written (run-steps P)) × (place ≡ 0))
 row-7 P = record {
@@ -190,4 +190,4 @@ row-7 P = record {
     set {place} true f = let p : place ≡ 0 = cc in (refl, p)
     set false f = let z : _≡_ {A = ℕ} 0 1 = cc in absurd (omega arith)
 
--- ---- 8 and 9 are one check, whose number goes with the term: Order.all-terms-exactly and Order.term-decides-exactly
+-- ---- R4.8 and R4.9 are one check, whose number goes with the term: Order.all-terms-exactly and Order.term-decides-exactly

@@ -1,4 +1,4 @@
--- Document 01, "Weights and formulas": what an accepted `weigh` leaves.
+-- R8.1 to R8.3: what an accepted `weigh` leaves.
 -- `promise` is what its `ensures` says; P is the problem and es the monomial's exponents as they were given; out is the lent output before the call and
 -- out₁ after it.
 use mathlib.Core.Path.{_≡_, sym, _∙_, subst}
@@ -86,7 +86,7 @@ module _ (P : Problem) (es out : List ℤ) (r : WeighAnswer) (out₁ : List ℤ)
         rest = rw (B .weights) (filled-keeps (P .m) (weights P (nth es)) out l (omega (arith, A .room, A .well-formed .m-high)));
       }
 
-  -- "v is free of dimension when every weight is 0"
+  -- R8.3, by the weights that are left
   pub free-by-weights : r .number ≡ 0 → Free P (nth es) ↔ ((i : ℕ) → i < P .m → nth out₁ i ≡ pos 0)
   free-by-weights e =
       let x = weights-in e .entries in

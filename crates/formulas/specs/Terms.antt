@@ -15,7 +15,7 @@ use Rattle.scaling.specs.WorkState.{Small}
 abbrev pub from : List ℤ → (at : ℕ) → ℕ → ℤ
 from es at j = nth es (at + j)
 
--- n exponents from an index on, each within document 01's limit
+-- n exponents from an index on, each within the limit of R2.6
 pub record Monomial (n : ℕ) (es : List ℤ) (at : ℕ) : Type 0 where
   pub fits : at + n ≤ length es
   pub small : (i : ℕ) → natAbs (nth es i) ≤ 10_000

@@ -153,7 +153,7 @@ fn judge_all(
     }
 }
 
-// The translated exponents of one term, from an index on; cols is document 01's N.
+// The translated exponents of one term, from an index on; cols is N of R5.1.
 fn translate_term(
     out: &mut [i32],
     at: usize,

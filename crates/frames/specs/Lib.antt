@@ -1,4 +1,4 @@
--- What the contracts of this crate's functions cite, beside document 01's definitions in the crate rules.
+-- What the contracts of this crate's functions cite, beside the definitions of the crate rules.
 --     Line     the text from a place on, as the code tests it: the functions of `line`
 --     Input    what an Input holds of the lines that were read: `read::read` and the methods of `Input`, what `solve` is given
 --     Output   texts written into a buffer, the lines by their numbers, a whole output: the functions of `print` and `solve`, `answer`

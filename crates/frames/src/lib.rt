@@ -1,4 +1,4 @@
-// The program of document 01: from the bytes of its input to those of its output.
+// The program (section 9 of the rules): from the bytes of its input to those of its output.
 ghost use Rattle.rules.specs.Frames.{program};
 ghost use Rattle.frames.specs.Output.{Shows};
 

@@ -1,4 +1,4 @@
-// Reading the program's input: what document 01's lines say, as numbers in arrays.
+// Reading the program's input: what the lines of R9.2 to R9.4 say, as numbers in arrays.
 ghost use mathlib.Core.Path.{_≡_};
 ghost use mathlib.Core.Bool.{true};
 ghost use Prim.Native.Nat.{_+_, _*_, _≤_};

@@ -29,7 +29,7 @@ pub fn refused(number: u32, place: u32) -> Text
     }
 }
 
-// The numbers of a solution, document 01's m, n, s, r, the step count, d and the count of terms.
+// The numbers of a solution: m, n, s, r, the step count, d and the count of terms.
 pub struct Sizes {
     pub m: u32,
     pub n: u32,

@@ -114,7 +114,7 @@ module _ {P : Problem} {h v w : List ℤ} {r : BuildAnswer} {h₁ v₁ w₁ : Li
       taken-by-build : r .number ≡ 0 → gaugeOf P R g ≡ gaugedBy (P .n) (group P (run P) g) (reading R) (verdict (own P R g))
       taken-by-build e = with-count (then-own (sizesInRange (P .m) (P .n)) (problemFits P) (rest P) (own P R g) (says-taken says e))
 
-  -- ---- the groups in V of a build that was taken; cols is document 01's N
+  -- ---- the groups in V of a build that was taken; cols is N of R5.1
   module _ (e : r .number ≡ 0) where
     B : Builds (built P h v w taken) r h₁ v₁ w₁
     B = build-taken K e

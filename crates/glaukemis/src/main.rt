@@ -1,4 +1,4 @@
-// The program: document 01's lines from standard input, its answer to standard output.
+// The program: the lines of R9.2 to R9.4 from standard input, those of R9.7 to R9.11 to standard output.
 // The longest good input has 5,375 bytes, so that the first 5,376 of any input decide its answer.
 mod input;
 

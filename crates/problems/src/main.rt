@@ -1,4 +1,4 @@
-// Runs document 01's known problems, in its order, and prints what build, weigh and translate answer.
+// Runs the known problems (R10.1 to R10.13), in their order, and prints what build, weigh and translate answer.
 use formulas::translate;
 use formulas::weigh;
 use scaling::build;

@@ -1,4 +1,4 @@
--- Order 2, computed: groups of document 01's problems worked out from readings, and each refusal against its neighbours in the order. Bits were worked
+-- Section 22 (order 2), computed: groups of the known problems worked out from readings, and each refusal against its neighbours in the order. Bits were worked
 -- out by another program before they were computed here; the rest is by hand.
 use mathlib.Core.Path.{_≡_, refl}
 use mathlib.Core.Bool.{true, false}

@@ -1,5 +1,5 @@
--- Document 01, "Known problems with their results": those "marked * are proved of the definitions", wherever it gives the number;
--- and its whole example, byte for byte. Then what its "Errors that look right" and the like would change. All of it is computed.
+-- R10.1 to R10.9, the starred problems of the rules, and their whole example (R9.12), byte for byte. Then what the errors that look right (section 12)
+-- and the like would change. All of it is computed.
 use mathlib.Core.Path.{_≡_, refl}
 use mathlib.Core.Bool.{true, false, _&&_}
 use mathlib.Core.List.{List, [], _∷_, _++_}
@@ -120,13 +120,13 @@ widest = alone (pos 917 ∷ negℤ (pos 618) ∷ negℤ (pos 541) ∷ negℤ (po
 
 -- ---- the list
 pub record Starred : Type 0 where
-  -- 1. [0], no modulus: r 0, H [0], V [1], 0 steps.
+  -- R10.1
   pub accepted1 : judged problem1 ≡ taken
   pub r1 : rank problem1 ≡ 0
   pub H1 : contentsH problem1 ≡ pos 0 ∷ []
   pub V1 : contentsV problem1 ≡ pos 1 ∷ []
   pub steps1 : steps problem1 ≡ 0
-  -- 2. [-5]: r 1, H [5], V and W [-1], no group, 1 step.
+  -- R10.2
   pub accepted2 : judged problem2 ≡ taken
   pub r2 : rank problem2 ≡ 1
   pub H2 : contentsH problem2 ≡ pos 5 ∷ []
@@ -134,19 +134,19 @@ pub record Starred : Type 0 where
   pub W2 : contentsW problem2 ≡ -1 ∷ []
   pub groups2 : d problem2 (run problem2) ≡ 0
   pub steps2 : steps problem2 ≡ 1
-  -- 3. [0], modulus 1: H [1 0], V and W rows (-1 0),(0 1), 2 steps.
+  -- R10.3
   pub accepted3 : judged problem3 ≡ taken
   pub H3 : contentsH problem3 ≡ pos 1 ∷ pos 0 ∷ []
   pub V3 : contentsV problem3 ≡ -1 ∷ pos 0 ∷ pos 0 ∷ pos 1 ∷ []
   pub W3 : contentsW problem3 ≡ -1 ∷ pos 0 ∷ pos 0 ∷ pos 1 ∷ []
   pub steps3 : steps problem3 ≡ 2
-  -- 4. The example above; the group is (-2, 1).
+  -- R10.4, with R9.12
   pub example4 :
       program (bytes "010102\n02000000010002\n0300000005fffc0002\n")
       ≡ bytes "810102000100000002\n820000000100000000\n8300000001fffffffe\n830000000000000001\n840000000100000002\n840000000000000001\n850000000500000002\n"
   pub groups4 : d problem4 (run problem4) ≡ 1
   pub group4 : groupOf problem4 0 ≡ -2 ∷ pos 1 ∷ []
-  -- 5. [1 2 0], modulus 3: H [1 0 0 0]; V rows (0 1 1 0),(1 3 1 0),(0 0 1 0),(0 0 0 1); W rows (-3 1 2 0),(1 0 -1 0),(0 0 1 0),(0 0 0 1).
+  -- R10.5
   pub accepted5 : judged problem5 ≡ taken
   pub H5 : contentsH problem5 ≡ pos 1 ∷ pos 0 ∷ pos 0 ∷ pos 0 ∷ []
   pub V5 :
@@ -161,19 +161,19 @@ pub record Starred : Type 0 where
       pos 1 ∷ pos 0 ∷ -1 ∷ pos 0 ∷
       pos 0 ∷ pos 0 ∷ pos 1 ∷ pos 0 ∷
       pos 0 ∷ pos 0 ∷ pos 0 ∷ pos 1 ∷ []
-  -- 6. In 5, exponents (2, 2, 1) become (0, 2, 1).
+  -- R10.6, in problem 5
   pub accepted6 : judgedFormula problem5 (monomial (pos 1) (pos 2 ∷ pos 2 ∷ pos 1 ∷ [])) ≡ taken
   pub become6 : translatedExponents problem5 (monomial (pos 1) (pos 2 ∷ pos 2 ∷ pos 1 ∷ [])) ≡ pos 0 ∷ pos 2 ∷ pos 1 ∷ []
-  -- 7. In 5, (1, 0, 0) is refused 8.
+  -- R10.7, in problem 5
   pub refused7 : judgedFormula problem5 (monomial (pos 1) (pos 1 ∷ pos 0 ∷ pos 0 ∷ [])) ≡ refused 8 0
-  -- 8. Rows (6 0 -4 1 3),(0 3 1 -4 3): H columns (3,0),(2,1); groups (2,-1,3,0,0),(1,2,2,2,0),(0,0,1,1,1).
+  -- R10.8
   pub accepted8 : judged problem8 ≡ taken
   pub H8 : contentsH problem8 ≡ pos 3 ∷ pos 2 ∷ pos 0 ∷ pos 0 ∷ pos 0 ∷ pos 0 ∷ pos 1 ∷ pos 0 ∷ pos 0 ∷ pos 0 ∷ []
   pub groups8 : d problem8 (run problem8) ≡ 3
   pub group8₀ : groupOf problem8 0 ≡ pos 2 ∷ -1 ∷ pos 3 ∷ pos 0 ∷ pos 0 ∷ []
   pub group8₁ : groupOf problem8 1 ≡ pos 1 ∷ pos 2 ∷ pos 2 ∷ pos 2 ∷ pos 0 ∷ []
   pub group8₂ : groupOf problem8 2 ≡ pos 0 ∷ pos 0 ∷ pos 1 ∷ pos 1 ∷ pos 1 ∷ []
-  -- 9. Three rows, 1000 on the diagonal and -1 right of it, four quantities: group (1, 1000, 1,000,000, 1,000,000,000).
+  -- R10.9
   pub accepted9 : judged problem9 ≡ taken
   pub groups9 : d problem9 (run problem9) ≡ 1
   pub group9 : groupOf problem9 0 ≡ pos 1 ∷ pos 1000 ∷ pos 1_000_000 ∷ pos 1_000_000_000 ∷ []
@@ -223,9 +223,9 @@ starred = record {
 -- Each value was found by hand, or by the second program in peer/, before it was computed here.
 pub record Traps : Type 0 where
   -- The steps.
-  -- "rows (3 -2),(0 1) keep the -2 right of the pivot 3; the right entry is 1"; a lower triangular form has a 0 there
+  -- R12.1 and R12.4: cut toward zero the 1 beside the pivot 3 would be -2, and a lower triangular form has a 0 there
   pub floored : contentsH towardZero ≡ pos 3 ∷ pos 1 ∷ pos 0 ∷ pos 1 ∷ []
-  -- stage 3 "from the top pivot row down" would leave (1, -2, 0) in V's first column, out of range at the pivot 3 (by hand)
+  -- R12.5: stage 3 from the highest pivot row on would leave (1, -2, 0) in V's first column, out of range at the pivot 3 (by hand)
   pub upward : contentsV (alone (-3 ∷ -2 ∷ pos 1 ∷ []) (pos 0)) ≡ -1 ∷ -2 ∷ -1 ∷ pos 1 ∷ pos 3 ∷ pos 2 ∷ pos 0 ∷ pos 0 ∷ pos 1 ∷ []
   -- in (A) the quotient is cut: with the floor it would take 4 steps (by hand)
   pub cut : steps (alone (-3 ∷ pos 2 ∷ []) (pos 0)) ≡ 5
@@ -251,12 +251,12 @@ pub record Traps : Type 0 where
   pub W-M : addStep 0 1 (pos 1) (pair (pos 0) (pos 0) (negsuc 2_147_483_645) (pos 0) (pos 0) (pos 1)) .over ≡ false
   pub W-over : addStep 0 1 (pos 2) (pair (pos 0) (pos 0) (negsuc 2_147_483_645) (pos 0) (pos 0) (pos 1)) .over ≡ true
   -- Weights and formulas.
-  -- the remainder has "the dividend's sign": the floor's would be 2 (by hand)
+  -- R8.2, the remainder has the sign of the dividend: the floor's would be 2 (by hand)
   pub signed : weights problem5 (nth (-1 ∷ pos 0 ∷ pos 0 ∷ [])) ≡ -1 ∷ []
   -- a modulus of 1 is a true one: it makes every weight 0, adds a column and counts in s (by hand; peer)
   pub one : weights (alone (pos 5 ∷ []) (pos 1)) (nth (pos 3 ∷ [])) ≡ pos 0 ∷ []
   pub one-column : program (bytes "010101\n0200010001\n03000000090003\n") ≡ bytes "810101010100000003\n820000000100000000\n83ffffffff00000001\n830000000000000001\n84ffffffff00000001\n840000000000000001\n850000000900000003\n"
-  -- with d = 0 "only all-zero exponents are free, and they translate to none" (peer)
+  -- R8.7: d is 0 (peer)
   pub none-left : program (bytes "010101\n020000fffb\n03000000070000\n") ≡ bytes "810101000100000001\n8200000005\n83ffffffff\n84ffffffff\n8500000007\n"
   pub not-free : program (bytes "010101\n020000fffb\n03000000070001\n") ≡ bytes "ff080000\n"
   -- the second term is refused (peer)

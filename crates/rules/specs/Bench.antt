@@ -1,6 +1,4 @@
--- Document 01, "What the work covers": the build and the translation "on numbers and byte slices, each number as four bytes,
--- big-endian two's complement; those two calls refuse a byte length that is no multiple of four as a length fault
--- (2 for an input, 3 for an output)". All else is as in Calls.
+-- R1.4 and R1.5: the build and the translation over bytes. A buffer that ends inside a number has a wrong length. All else is as in Calls.
 use mathlib.Core.Bool.{Bool, _&&_}
 use mathlib.Core.List.{List}
 use Prim.Native.Nat.{ℕ}

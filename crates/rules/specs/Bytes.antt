@@ -1,4 +1,4 @@
--- Numbers as bytes: "big-endian two's complement" (toZ and ofZ are the language's own reading of two's complement).
+-- R1.4: numbers as bytes, the highest byte first (toZ and ofZ are the language's own reading of two's complement).
 use mathlib.Core.Bool.{Bool}
 use mathlib.Core.List.{List, [], _∷_, _++_}
 use Prim.Native.Nat.{ℕ, zero, suc, _+_, _*_, _/_, _%_}
@@ -39,7 +39,7 @@ twoBytes x = byte (x / 256) ++ byte x
 abbrev pub fourBytes : ℕ → List ℕ
 fourBytes x = byte (x / 16_777_216) ++ byte (x / 65_536) ++ byte (x / 256) ++ byte x
 
--- whole numbers, "four bytes a number"
+-- whole numbers, each in four bytes
 unfoldable pub bytesOf : List ℤ → List ℕ
 bytesOf [] = []
 bytesOf (z ∷ zs) = fourBytes (ofZ w32 z) ++ bytesOf zs

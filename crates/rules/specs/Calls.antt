@@ -1,4 +1,4 @@
--- Document 01, "Numbers and the order of checks": what build, weigh and translate answer, and what every lent buffer holds after.
+-- Sections 3 and 4 of the rules, R2.10 and R2.11: what build, weigh and translate answer, and what every lent buffer holds after.
 use mathlib.Core.Bool.{Bool, true, false, not, _&&_, _||_}
 use mathlib.Core.List.{List, [], _∷_, _++_}
 use Prim.Native.Nat.{ℕ, _+_, _*_}
@@ -14,7 +14,7 @@ use Rattle.rules.specs.Stages.{Run, run, H, U, W}
 use Rattle.rules.specs.Formulas.{weight, isFree, d, translated, Formula, terms, term, passes}
 
 -- ---- the order of checks
--- a number of the table, and the place of its first fault, if there is one
+-- a number of section 4, and the place of its first fault, if there is one
 pub record Check : Type 0 where
   pub number : ℕ
   pub fault : Found
@@ -23,7 +23,7 @@ pub data Verdict : Type 0 where
   taken : Verdict
   refused : (number place : ℕ) → Verdict
 
--- "Checks go in the order of the numbers": the first that finds a fault decides
+-- R3.1: the first that finds a fault decides
 abbrev pub verdict : List Check → Verdict
 verdict [] = taken
 verdict (c ∷ cs) = elim (c .fault) [ none ↦ verdict cs | found place ↦ refused (c .number) place ]
@@ -33,7 +33,7 @@ abbrev pub unlessAt : (place : ℕ) → Bool → Found
 unlessAt place true = none
 unlessAt place false = found place
 
--- "where a paper names none, it is 0"
+-- R3.3
 abbrev pub unless : Bool → Found
 unless = unlessAt 0
 
@@ -41,7 +41,7 @@ unless = unlessAt 0
 unfoldable pub firstOut : (ℤ → Bool) → List ℤ → Found
 firstOut good xs = first (λ i. not (good (nth xs i))) 0 (length xs)
 
--- 1 to 5. inputs: each lent input has the right length; outputs: no lent output is shorter than its size
+-- R4.1 to R4.5. inputs: each lent input has the right length; outputs: each lent output has room enough
 abbrev pub sizesCheck : Problem → Check
 sizesCheck P = record { number = 1; fault = unless (sizesInRange (P .m) (P .n)) }
 
@@ -57,15 +57,15 @@ moduliCheck P = record { number = 4; fault = firstOut modulusInRange (P .moduli)
 abbrev pub entriesCheck : Problem → Check
 entriesCheck P = record { number = 5; fault = firstOut entryInRange (P .matrix) }
 
--- 6
+-- R4.6
 abbrev pub exponentsCheck : List ℤ → Check
 exponentsCheck es = record { number = 6; fault = firstOut exponentInRange es }
 
--- 7: "a step of the build writes a value beyond M either way"
+-- R4.7: the run's flag is up
 abbrev pub rangeCheck : Run → Check
 rangeCheck u = record { number = 7; fault = unless (not (u .state .over)) }
 
--- 8 and 9: "In one term 8 comes before 9; between terms the lower term decides."
+-- R4.8 and R4.9, in the order of R3.4
 abbrev pub termRefused : Problem → Run → (v : ℕ → ℤ) → Bool
 termRefused P u v = not (isFree P v) || passes P u v
 
@@ -86,7 +86,7 @@ checksTo5 P inputs outputs = sizesCheck P ∷ inputsCheck inputs ∷ outputsChec
 abbrev pub checksTo6 : Problem → (exponents : List ℤ) → (inputs outputs : Bool) → List Check
 checksTo6 P es inputs outputs = checksTo5 P inputs outputs ++ exponentsCheck es ∷ []
 
--- "The build gives 1 to 5 and 7; weights 1 to 6; translation 1 to 9."
+-- R3.2
 unfoldable pub buildVerdict : Problem → (inputs outputs : Bool) → Verdict
 buildVerdict P inputs outputs = verdict (checksTo5 P inputs outputs ++ rangeCheck (run P) ∷ [])
 
@@ -96,7 +96,7 @@ weighVerdict P es inputs outputs = verdict (checksTo6 P es inputs outputs)
 unfoldable pub translateVerdict : Problem → Formula → (inputs outputs : Bool) → Verdict
 translateVerdict P f inputs outputs = verdict (checksTo6 P (f .exponents) inputs outputs ++ rangeCheck (run P) ∷ termsCheck P (run P) f ∷ [])
 
--- ---- lengths: "matrix m·n, moduli m, coefficients one and exponents n per term; more than 64 terms"
+-- ---- lengths: R4.2
 abbrev pub problemFits : Problem → Bool
 problemFits P = eqb (length (P .matrix)) (P .m * P .n) && eqb (length (P .moduli)) (P .m)
 
@@ -104,11 +104,11 @@ abbrev pub formulaFits : Problem → Formula → Bool
 formulaFits P f = eqb (length (f .exponents)) (terms f * P .n) && leb (terms f) mostTerms
 
 -- ---- the contents
--- the entries of a matrix of m rows and n columns, "row after row"
+-- the entries of a matrix of m rows and n columns, row after row
 abbrev pub grid : (m n : ℕ) → Matrix → List ℤ
 grid m n A = join (tab m (λ r. tab n (λ c. A r c)))
 
--- "(H with its zero columns m·N, V and W N·N, weights m, coefficients one and exponents d per term)"
+-- R2.10: what each output holds at its front
 unfoldable pub contentsH : Problem → List ℤ
 contentsH P = grid (P .m) (N P) (H (run P))
 
@@ -124,12 +124,12 @@ weights P v = tab (P .m) (weight P v)
 unfoldable pub translatedExponents : Problem → Formula → List ℤ
 translatedExponents P f = grid (terms f) (d P (run P)) (λ t g. translated P (run P) (term P f t) g)
 
--- "On success the first entries are filled without gaps, row after row (..), and those after them are untouched."
+-- R2.10: the contents, and behind them what stood there
 abbrev pub filled : {A : Type 0} → (contents lent : List A) → List A
 filled contents lent = contents ++ drop (length contents) lent
 
 -- ---- the three calls: the answer, and the lent outputs after
--- "A refusal returns its number and place, zero in every other field, and every lent buffer holds what it held."
+-- R2.11 where a call is taken, R3.5 where it is refused
 pub record BuildAnswer : Type 0 where
   pub number : ℕ
   pub place : ℕ
@@ -198,7 +198,7 @@ pub record Translated (A : Type 0) : Type 0 where
   pub coefficients : List A
   pub exponents : List A
 
--- "The coefficient is kept."
+-- R8.6: the coefficients are those that were given
 abbrev pub translatedIn : {A : Type 0} (write : List ℤ → List A) → Problem → Formula → (coefficients exponents : List A) → Verdict → Translated A
 translatedIn write P f cs es x = record {
   answer = translateReply P x;

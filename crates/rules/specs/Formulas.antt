@@ -1,4 +1,4 @@
--- Document 01, "Weights and formulas". A monomial is its exponents v, one for each quantity, numbered from 0.
+-- Section 8 of the rules, and the groups (R6.6). A monomial is its exponents v, one for each quantity, numbered from 0.
 use mathlib.Core.Path.{_≡_}
 use mathlib.Core.Bool.{Bool, true, false, not}
 use mathlib.Core.List.{List}
@@ -14,19 +14,19 @@ use Rattle.rules.specs.Search.{Found, none, found, first}
 use Rattle.rules.specs.Problem.{Problem, entry, modulus, modulusRows, s, N}
 use Rattle.rules.specs.Stages.{Run, U, W}
 
--- "the row times v"
+-- R8.1: the product of row i with v
 unfoldable pub rowTimes : Problem → (v : ℕ → ℤ) → (i : ℕ) → ℤ
 rowTimes P v i = sum (P .n) (λ j. entry P i j *ℤ v j)
 
--- "the remainder of that by the modulus, with the dividend's sign"
+-- R8.2: the quotient is cut toward zero, so the remainder has the sign of the dividend
 unfoldable pub remainder : (dividend modulus : ℤ) → ℤ
 remainder x p = remZ x p
 
--- "The weight of exponents v in a row is the row times v; with a modulus, the remainder"
+-- R8.1 without a modulus, R8.2 with one
 unfoldable pub weight : Problem → (v : ℕ → ℤ) → (i : ℕ) → ℤ
 weight P v i = elim (isZero (modulus P i)) [ true ↦ rowTimes P v i | false ↦ remainder (rowTimes P v i) (modulus P i) ]
 
--- "v is free of dimension when every weight is 0."
+-- R8.3
 pub record Free (P : Problem) (v : ℕ → ℤ) : Type 0 where
   pub weights : (i : ℕ) → i < P .m → weight P v i ≡ pos 0
 
@@ -38,25 +38,25 @@ isNone (found i) = false
 unfoldable pub isFree : Problem → (v : ℕ → ℤ) → Bool
 isFree P v = isNone (first (λ i. not (isZero (weight P v i))) 0 (P .m))
 
--- "let k hold, for each row with a modulus, the row times v divided by the modulus"
+-- R8.4: entry c of k, for the row of modulus column c
 unfoldable pub kOf : Problem → (v : ℕ → ℤ) → (c : ℕ) → ℤ
 kOf P v c =
     let i : ℕ = getD (modulusRows P) c 0 in
     quotZ (rowTimes P v i) (modulus P i)
 
--- "k followed by v"
+-- R8.5: k, then v
 unfoldable pub kThenV : Problem → (v : ℕ → ℤ) → (c : ℕ) → ℤ
 kThenV P v c = elim (ltb c (s P)) [ true ↦ kOf P v c | false ↦ v (c - s P) ]
 
--- "the last d = N - r columns"
+-- R6.6: the number of groups
 abbrev pub d : Problem → Run → ℕ
 d P u = N P - u .rank
 
--- "The translated exponents are the last d rows of W times k followed by v": that of group g
+-- R8.5: the exponent of group g, from row r + g of W
 unfoldable pub translated : Problem → Run → (v : ℕ → ℤ) → (g : ℕ) → ℤ
 translated P u v g = sum (N P) (λ c. W u (u .rank + g) c *ℤ kThenV P v c)
 
--- "The groups are the last d columns of V, cut to the quantity rows": the exponent of quantity j in group g
+-- R6.6: the exponent of quantity j in group g, from column r + g of V
 unfoldable pub group : Problem → Run → (g j : ℕ) → ℤ
 group P u g j = U u (s P + j) (u .rank + g)
 
@@ -73,7 +73,7 @@ terms f = length (f .coefficients)
 abbrev pub term : Problem → Formula → (t : ℕ) → ℕ → ℤ
 term P f t j = nth (f .exponents) (t * P .n + j)
 
--- "a formula has 0 to 64 terms; formula exponents -10,000 to 10,000", with n exponents for each term. Past the end of the list nth is 0.
+-- R2.5 and R2.6, with n exponents for each term. Past the end of the list nth is 0.
 pub record WellFormedFormula (P : Problem) (f : Formula) : Type 0 where
   pub few : terms f ≤ mostTerms
   pub fits : length (f .exponents) ≡ terms f * P .n

@@ -1,4 +1,4 @@
--- Document 01, "Lines the program reads and prints": from any input bytes to the output bytes.
+-- Section 9 of the rules: from any input bytes to the output bytes.
 use mathlib.Core.Bool.{Bool, true, false, cond, _&&_}
 use mathlib.Core.List.{List, [], _∷_, _++_, map}
 use Prim.Native.Nat.{ℕ, zero, suc, _+_, _-_, _*_, _/_, _%_}
@@ -15,7 +15,7 @@ use Rattle.rules.specs.Calls.{Verdict, taken, refused, translateVerdict,
 use Rattle.rules.specs.Bytes.{byteAt, short, long, shorts, byte, twoBytes, fourBytes, bytesOf}
 
 -- ---- lines
--- "a newline after each line, the last too": what stands after the last newline, if anything, is torn off
+-- R9.1 and R9.5: what stands after the last newline, if anything, is torn off
 pub data TextLine : Type 0 where
   whole torn : List ℕ → TextLine
 
@@ -32,7 +32,7 @@ unfoldable pub linesOf : List ℕ → List TextLine
 linesOf [] = []
 linesOf (b ∷ bs) = elim (eqb b newline) [ true ↦ whole [] ∷ linesOf bs | false ↦ before b (linesOf bs) ]
 
--- ---- frames: "lower-case hexadecimal, two digits a byte"
+-- ---- frames: R9.1
 -- what a byte of text is worth as a digit ('0' is 48, 'a' is 97); 16 for a byte that is no lower-case digit
 unfoldable pub digit : ℕ → ℕ
 digit b = cond (leb 48 b && leb b 57) (b - 48) (cond (leb 97 b && leb b 102) (b - 87) 16)
@@ -59,11 +59,11 @@ unfoldable pub isFrame : (kind count : ℕ) → TextLine → Bool
 isFrame kind count (torn t) = false
 isFrame kind count (whole t) = eqb (length t) (2 * count) && allDigits t && eqb (byteAt (frameOf (whole t)) 0) kind
 
--- "`01` m n (one byte each)"
+-- R9.2
 abbrev pub isSizes : TextLine → Bool
 isSizes l = isFrame 0x01 3 l
 
--- "`02`, modulus, n entries, two bytes each, signed, big-endian"
+-- R9.3
 abbrev pub isRow : (n : ℕ) → TextLine → Bool
 isRow n l = isFrame 0x02 (1 + 2 + 2 * n) l
 
@@ -73,7 +73,7 @@ rowModulus l = short (drop 1 (frameOf l))
 unfoldable pub rowEntries : (n : ℕ) → TextLine → List ℤ
 rowEntries n l = shorts n (drop 3 (frameOf l))
 
--- "`03`, coefficient in four bytes, n exponents in two"
+-- R9.4
 abbrev pub isTerm : (n : ℕ) → TextLine → Bool
 isTerm n l = isFrame 0x03 (1 + 4 + 2 * n) l
 
@@ -84,7 +84,7 @@ unfoldable pub termExponents : (n : ℕ) → TextLine → List ℤ
 termExponents n l = shorts n (drop 5 (frameOf l))
 
 -- ---- the input
--- "the first line not of this form, or missing": after line 0, so many matrix lines are to come, then at most so many term lines;
+-- R9.6, the first bad or missing line: after line 0, so many matrix lines are to come, then at most so many term lines;
 -- the next line is number place
 unfoldable pub firstBad : (n rows terms place : ℕ) → List TextLine → Found
 firstBad n (suc rows) terms place [] = found place
@@ -107,7 +107,7 @@ abbrev pub formed : (m n : ℕ) → List TextLine → Found → Reading
 formed m n ls (found place) = unread 10 place
 formed m n ls none = contentsOf m n ls
 
--- "Sizes are judged right after the first line (refusal 1); else the first line not of this form, or missing, is refusal 10"
+-- R9.6: 1 before any line after line 0 is looked at, then 10
 unfoldable pub sized : (m n : ℕ) → List TextLine → Reading
 sized m n ls = elim (sizesInRange m n) [ true ↦ formed m n ls (firstBad n m mostTerms 1 ls) | false ↦ unread 1 0 ]
 
@@ -127,11 +127,11 @@ hex (b ∷ bs) = digitOf (b / 16) ∷ digitOf (b % 16) ∷ hex bs
 unfoldable pub frame : List ℕ → List ℕ
 frame bs = hex bs ++ newline ∷ []
 
--- "`ff`, the number in one byte, the place in two"
+-- R9.11
 unfoldable pub refusalLine : (number place : ℕ) → List ℕ
 refusalLine number place = frame (byte 0xff ++ byte number ++ twoBytes place)
 
--- "`81` m n s r (a byte each) and the step count (four bytes)"
+-- R9.7
 unfoldable pub sizesLine : Problem → List ℕ
 sizesLine P = frame (byte 0x81 ++ byte (P .m) ++ byte (P .n) ++ byte (s P) ++ byte (run P .rank) ++ fourBytes (run P .state .steps))
 
@@ -140,12 +140,12 @@ unfoldable pub rowLines : (kind count width : ℕ) → List ℤ → List ℕ
 rowLines kind zero width zs = []
 rowLines kind (suc count) width zs = frame (byte kind ++ bytesOf (take width zs)) ++ rowLines kind count width (drop width zs)
 
--- "`85` for each term its coefficient and d exponents"
+-- R9.9
 unfoldable pub termLines : (d : ℕ) → (coefficients exponents : List ℤ) → List ℕ
 termLines d [] es = []
 termLines d (c ∷ cs) es = frame (byte 0x85 ++ bytesOf (c ∷ take d es)) ++ termLines d cs (drop d es)
 
--- "`82` the rows of H with N entries; `83` of V; `84` of W"
+-- R9.7 to R9.9 one after the other
 unfoldable pub printed : Problem → Formula → List ℕ
 printed P f =
     sizesLine P
@@ -154,7 +154,7 @@ printed P f =
     ++ rowLines 0x84 (N P) (N P) (contentsW P)
     ++ termLines (d P (run P)) (f .coefficients) (translatedExponents P f)
 
--- "A refusal prints one line only"
+-- R9.11: of a refusal nothing else is printed
 abbrev pub answered : Problem → Formula → Verdict → List ℕ
 answered P f (refused number place) = refusalLine number place
 answered P f taken = printed P f

@@ -1,4 +1,4 @@
--- Order 2 of document 02: one group worked out from a set of gauge readings. Quantities, groups and readings count from 0.
+-- Section 22 of the rules (order 2): one group worked out from a set of gauge readings. Quantities, groups and readings count from 0.
 -- A reading is a number of IEEE 754's binary64. Its products and quotients are those of lib.Ieee: each is rounded once, to the nearest number.
 use mathlib.Core.Bool.{Bool, true, false, not, _&&_}
 use mathlib.Core.List.{List, [], _∷_, _++_}
@@ -15,7 +15,7 @@ use Rattle.rules.specs.Stages.{run}
 use Rattle.rules.specs.Formulas.{isNone, d, group}
 use Rattle.rules.specs.Calls.{Check, Verdict, taken, refused, verdict, unlessAt, problemFits, sizesCheck, inputsCheck, moduliCheck, entriesCheck, rangeCheck}
 
--- ---- a set of readings: up to sixteen values (a count other than n is refused, and n is at most 16), and how many of them count
+-- ---- R22.1, a set of readings: up to sixteen values (a count other than n is refused, and n is at most 16), and how many of them count
 pub record Readings : Type 0 where
   pub values : List Float
   pub count : ℕ
@@ -31,7 +31,7 @@ reading R = read (R .values)
 abbrev pub lentReadings : List Float → Readings
 lentReadings values = record { values = values; count = length values }
 
--- ---- the operations of a group in their order
+-- ---- R22.3, the operations of a group in their order
 -- one operation, by the reading of a quantity
 pub data Operation : Type 0 where
   multiply divide : (quantity : ℕ) → Operation
@@ -82,7 +82,7 @@ unfoldable pub runningValues : (n : ℕ) (exponents : ℕ → ℤ) (readings : �
 unfolding operations
 runningValues n v x = running (operate x) one (operations n v)
 
--- for the exact powers of two: a running value from 2^-1022 to 2^1023; and that something holds of each running value
+-- R22.4, for the exact powers of two: a running value from 2^-1022 to 2^1023; and that something holds of each running value
 pub record Between (r : Float) : Type 0 where
   pub low : T (le (two (negℤ (pos 1022))) r)
   pub high : T (le r (two (pos 1023)))
@@ -92,19 +92,19 @@ Every P [] = Unit
 Every P (a ∷ l) = P a × Every P l
 
 -- ---- the checks that are this call's own
--- 11: a reading, among the first n, that is not finite or not above zero; the place is the first such
+-- R22.6, 11: a reading, among the first n, that is not finite or not above zero; the place is the first such
 abbrev pub readingsCheck : (n : ℕ) (readings : ℕ → Float) → Check
 readingsCheck n x = record { number = 11; fault = first (λ j. not (positive (x j))) 0 n }
 
--- 24: there are d groups; the place is the group's number, as of 12 and 13
+-- R22.7, 24: there are d groups; the place is the group's number, as of 12 and 13
 abbrev pub groupCheck : (d group : ℕ) → Check
 groupCheck d g = record { number = 24; fault = unlessAt g (ltb g d) }
 
--- 12: each of the group's exponents is from -64 to 64
+-- R22.8, 12: each of the group's exponents is from -64 to 64
 abbrev pub powersCheck : (n : ℕ) (exponents : ℕ → ℤ) (group : ℕ) → Check
 powersCheck n v g = record { number = 12; fault = unlessAt g (isNone (first (λ j. not (powerInRange (v j))) 0 n)) }
 
--- 13: no running value is zero or not finite
+-- R22.9, 13: no running value is zero or not finite
 abbrev pub isOut : Float → Bool
 isOut nan = true
 isOut (inf s) = true
@@ -126,13 +126,13 @@ runningCheck n v x g = record { number = 13; fault = unlessAt g (not (leavesRang
 abbrev pub ownChecks : (n d : ℕ) (exponents : ℕ → ℤ) (readings : ℕ → Float) (group : ℕ) → List Check
 ownChecks n d v x g = readingsCheck n x ∷ groupCheck d g ∷ powersCheck n v g ∷ runningCheck n v x g ∷ []
 
--- ---- the order of all: 1, 2 (the lengths of the problem, and a count other than n), 4, 5, 7, then these
+-- ---- R22.10, the order of all: 1, 2 (the lengths of the problem, and a count other than n), 4, 5, 7, then these
 abbrev pub gaugeChecks : Problem → Readings → (group : ℕ) → List Check
 gaugeChecks P R g =
     sizesCheck P ∷ inputsCheck (problemFits P && eqb (R .count) (P .n)) ∷ moduliCheck P ∷ entriesCheck P ∷ rangeCheck (run P)
     ∷ ownChecks (P .n) (d P (run P)) (group P (run P) g) (reading R) g
 
--- ---- the answer for one group
+-- ---- R22.5, the answer for one group
 -- a value, or a refusal with its number, its place and the reading that it carries
 pub data Gauged : Type 0 where
   value : Float → Gauged
@@ -153,7 +153,7 @@ gaugedBy n v x (refused number place) = refusal number place (carried x number p
 unfoldable pub gaugeOf : Problem → Readings → (group : ℕ) → Gauged
 gaugeOf P R g = gaugedBy (P .n) (group P (run P) g) (reading R) (verdict (gaugeChecks P R g))
 
--- ---- the same in plain numbers, as the C call returns it: a value has the number and the place 0
+-- ---- R22.11, the same in plain numbers, as the C call returns it: a value has the number and the place 0
 pub record GaugeAnswer : Type 0 where
   pub number : ℕ
   pub place : ℕ

@@ -1,5 +1,5 @@
--- Document 01 as definitions, in its order. Every definition carries the sentence that it stands for.
--- Behind it the orders of document 02, in our words: Gauges is order 2.
+-- The rules of docs/RULES.md as definitions, in their order. Every definition carries the number of its rule.
+-- Behind them the orders': Gauges is order 2.
 --     Limits     the limits of every number, M, and the sizes of the outputs: the checks of every call
 --     Search     the first, last and smallest index of a range, a sum over it, a loop over it: Stages, Calls
 --     Problem    a problem, its moduli, the matrix C and its columns; when it is well formed

@@ -1,15 +1,15 @@
--- Document 01, "Numbers and the order of checks": the limits, and the sizes of the outputs.
+-- Section 2 of the rules: the limits, and how much room the outputs need.
 use mathlib.Core.Bool.{Bool, _&&_}
 use Prim.Native.Nat.{ℕ}
 use lib.Dec.{leb, ltb, eqb}
 use lib.IntN.{ℤ, pos, negℤ, natAbs}
 use lib.Signed.{leZ}
 
--- "M means 2,147,483,647."
+-- R2.8
 abbrev pub M : ℕ
 M = 2_147_483_647
 
--- beyond M either way
+-- of either sign
 abbrev pub beyond : ℤ → Bool
 beyond z = ltb M (natAbs z)
 
@@ -20,31 +20,31 @@ isZero z = eqb (natAbs z) 0
 abbrev pub within : (lo hi : ℤ) → ℤ → Bool
 within lo hi z = leZ lo z && leZ z hi
 
--- "m is 1 to 8; n is 1 to 16"
+-- R2.1
 abbrev pub sizesInRange : ℕ → ℕ → Bool
 sizesInRange m n = (leb 1 m && leb m 8) && (leb 1 n && leb n 16)
 
--- "entries -1000 to 1000"
+-- R2.2
 abbrev pub entryInRange : ℤ → Bool
 entryInRange z = within (negℤ (pos 1000)) (pos 1000) z
 
--- "moduli 0 to 1000"
+-- R2.3
 abbrev pub modulusInRange : ℤ → Bool
 modulusInRange z = within (pos 0) (pos 1000) z
 
--- "a formula has 0 to 64 terms"
+-- R2.5
 abbrev pub mostTerms : ℕ
 mostTerms = 64
 
--- "formula exponents -10,000 to 10,000"
+-- R2.6
 abbrev pub exponentInRange : ℤ → Bool
 exponentInRange z = within (negℤ (pos 10_000)) (pos 10_000) z
 
--- order 2: the exponents of a group that readings are put into, -64 to 64
+-- R22.8: the exponents of a group that readings are put into
 abbrev pub powerInRange : ℤ → Bool
 powerInRange z = within (negℤ (pos 64)) (pos 64) z
 
--- "Outputs: H at least 192 entries, V and W 576 each, weights 8, translated coefficients 64, translated exponents 1,024."
+-- R2.9: the least length of each output
 abbrev pub roomH : ℕ
 roomH = 192
 

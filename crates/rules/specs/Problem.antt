@@ -1,4 +1,4 @@
--- Document 01, "What the work covers" and "Hermite form and the normal multiplier", its first paragraph: a problem and its matrix C.
+-- R1.1 and section 5 of the rules: a problem and its matrix C.
 -- Rows and columns count from 0.
 use mathlib.Core.Path.{_≡_}
 use mathlib.Core.Bool.{true, false}
@@ -12,8 +12,7 @@ use Rattle.whole.specs.Lists.{nth, tab}
 use Rattle.whole.specs.Matrix.{Matrix}
 use Rattle.rules.specs.Limits.{isZero}
 
--- "A problem is m rows (dimensions) by n columns (quantities) of whole numbers, with one modulus for each row."
--- The matrix stands row after row.
+-- R1.1. The matrix stands row after row.
 pub record Problem : Type 0 where
   pub m : ℕ
   pub n : ℕ
@@ -26,7 +25,7 @@ entry P i j = nth (P .matrix) (i * P .n + j)
 abbrev pub modulus : Problem → ℕ → ℤ
 modulus P i = nth (P .moduli) i
 
--- "m is 1 to 8; n is 1 to 16; entries -1000 to 1000; moduli 0 to 1000", with as many entries and moduli as m and n say.
+-- R2.1 to R2.3, with as many entries and moduli as m and n say.
 -- Past the end of a list nth is 0, so that each i may be asked.
 pub record WellFormed (P : Problem) : Type 0 where
   pub m-low : 1 ≤ P .m
@@ -39,7 +38,7 @@ pub record WellFormed (P : Problem) : Type 0 where
   pub moduli-low : (i : ℕ) → pos 0 ≤ℤ nth (P .moduli) i
   pub moduli-high : (i : ℕ) → natAbs (nth (P .moduli) i) ≤ 1000
 
--- the rows with a modulus ("0 says the row has none"), from the top row down; i is the row of the first modulus listed
+-- the rows with a modulus (R2.4), from the top row down; i is the row of the first modulus listed
 unfoldable pub modulusRowsFrom : (i : ℕ) → List ℤ → List ℕ
 modulusRowsFrom i [] = []
 modulusRowsFrom i (p ∷ ps) = elim (isZero p) [ true ↦ modulusRowsFrom (suc i) ps | false ↦ i ∷ modulusRowsFrom (suc i) ps ]
@@ -47,15 +46,14 @@ modulusRowsFrom i (p ∷ ps) = elim (isZero p) [ true ↦ modulusRowsFrom (suc i
 abbrev pub modulusRows : Problem → List ℕ
 modulusRows P = modulusRowsFrom 0 (P .moduli)
 
--- "the count s of non-zero moduli"
+-- R5.1: how many rows have a modulus, and how many columns C has
 abbrev pub s : Problem → ℕ
 s P = length (modulusRows P)
 
--- "N = n + s columns"
 abbrev pub N : Problem → ℕ
 N P = P .n + s P
 
--- "For each row with a modulus p, from the top row down, take a column that is -p in that row and 0 elsewhere."
+-- R5.2: the column of row i
 abbrev pub modulusColumn : Problem → ℕ → List ℤ
 modulusColumn P i = tab (P .m) (λ r. elim (eqb i r) [ true ↦ negℤ (modulus P i) | false ↦ pos 0 ])
 
@@ -65,7 +63,7 @@ modulusColumns P = map (modulusColumn P) (modulusRows P)
 abbrev pub quantityColumns : Problem → List (List ℤ)
 quantityColumns P = tab (P .n) (λ j. tab (P .m) (λ i. entry P i j))
 
--- "The s such columns stand before the n quantity columns; together they are C."
+-- R5.3
 unfoldable pub columns : Problem → List (List ℤ)
 columns P = modulusColumns P ++ quantityColumns P
 

@@ -1,5 +1,5 @@
--- Document 01, "The steps": (A), (B), the three stages and the whole run, on whole numbers without limit.
--- Rows and columns count from 0; 'columns lo to a' are lo, .., a - 1, so that document 01's column a is column a - 1 here.
+-- Section 7 of the rules: (A), (B), the three stages and the whole run, on whole numbers without limit.
+-- Rows and columns count from 0; 'columns lo to a', the active ones, are lo, .., a - 1.
 use mathlib.Core.Bool.{Bool, true, false, not, _&&_}
 use mathlib.Core.List.{List}
 use Prim.Native.Nat.{ℕ, zero, suc, _-_}
@@ -13,15 +13,15 @@ use Rattle.rules.specs.Search.{Found, none, found, first, last, smallest
 use Rattle.rules.specs.Problem.{Problem, N, columns}
 use Rattle.rules.specs.Steps.{State, Table, onT, onV, get, getW, swapStep, negateStep, addStep, reorder, start}
 
--- ---- (A), among columns lo to a of row k
+-- ---- (A), R7.8, among columns lo to a of row k
 unfoldable pub size : Table → State → (k c : ℕ) → ℕ
 size tb u k c = natAbs (get tb u k c)
 
--- "Let p be the column with the smallest non-zero absolute value in that row, lowest column on a tie."
+-- p: the least absolute value that is not 0, the lowest of several
 abbrev pub pivotColumn : Table → (lo a k : ℕ) → State → Found
 pivotColumn tb lo a k u = smallest (size tb u k) lo a
 
--- "If another column is non-zero there, take the lowest such j"
+-- j: the lowest other column that is not 0
 abbrev pub isOther : (ℕ → ℕ) → ℕ → ℕ → Bool
 isOther f p c = not (eqb c p) && not (eqb (f c) 0)
 
@@ -33,7 +33,7 @@ pub data Next : Type 0 where
   done : Next
   adds : (p j : ℕ) (q : ℤ) → Next
 
--- "with q the negated quotient of entry j by entry p, cut toward zero"
+-- quotZ rounds toward zero
 abbrev pub nextAdd : Table → (k : ℕ) → State → (p : ℕ) → Found → Next
 nextAdd tb k u p none = done
 nextAdd tb k u p (found j) = adds p j (negℤ (quotZ (get tb u k j) (get tb u k p)))
@@ -45,27 +45,27 @@ nextFor tb lo a k u (found p) = nextAdd tb k u p (otherColumn tb lo a k p u)
 unfoldable pub next : Table → (lo a k : ℕ) → State → Next
 next tb lo a k u = nextFor tb lo a k u (pivotColumn tb lo a k u)
 
--- "Repeat (A) until only p is left", at most so often
+-- (A) again and again until p alone is left, at most so often
 unfoldable pub repeatA : (times : ℕ) → Table → (lo a k : ℕ) → State → State
 repeatA zero tb lo a k u = u
 repeatA (suc times) tb lo a k u = elim (next tb lo a k u) [ done ↦ u | adds p j q ↦ repeatA times tb lo a k (addStep p j q u) ]
 
--- the sum of the absolute values in the active columns falls each time, so that many times are enough
+-- the sum of the absolute values falls with each addition, so that many times are enough
 unfoldable pub eliminate : Table → (lo a k : ℕ) → State → State
 eliminate tb lo a k u = repeatA (total (size tb u k) lo a) tb lo a k u
 
--- ---- (B), in row k
--- "let q be the negated floor of entry k by entry a; where q is not 0, add q times column a to column k": here b is a, the pivot's column, and c is k
+-- ---- (B), R7.9, in row k
+-- column c is brought into range by the pivot's column b; floorZ rounds down
 unfoldable pub reduce : Table → (k b c : ℕ) → State → State
 reduce tb k b c u =
     let q : ℤ = negℤ (floorZ (get tb u k c) (get tb u k b)) in
     elim (isZero q) [ true ↦ u | false ↦ addStep b c q u ]
 
--- "Swap p and a if they differ"
+-- the pivot comes to column b
 unfoldable pub bring : (p b : ℕ) → State → State
 bring p b u = elim (eqb p b) [ true ↦ u | false ↦ swapStep p b u ]
 
--- "negate a if its entry is negative"
+-- and becomes positive
 unfoldable pub makePositive : Table → (k b : ℕ) → State → State
 makePositive tb k b u = elim (ltZ (get tb u k b) (pos 0)) [ true ↦ negateStep b u | false ↦ u ]
 
@@ -79,12 +79,12 @@ pub record Progress : Type 0 where
   pub state : State
   pub a : ℕ
 
--- "Lower a by one."
+-- after (B) a is one lower; a row without a pivot column is passed over
 abbrev pub settled : Table → (n a k : ℕ) → State → Found → Progress
 settled tb n a k u none = record { state = u; a = a }
 settled tb n a k u (found p) = record { state = settle tb n k p (a - 1) u; a = a - 1 }
 
--- "if the row is all zero, go to the next row. Otherwise" (A), then (B)
+-- R7.7: (A), then (B), unless the active columns are all 0
 unfoldable pub row : Table → (n lo k : ℕ) → Progress → Progress
 row tb n lo k g =
     let u : State = eliminate tb lo (g .a) k (g .state) in
@@ -95,12 +95,11 @@ rows tb n lo zero g = g
 rows tb n lo (suc k) g = rows tb n lo k (row tb n lo k g)
 
 -- ---- the stages; n is the number of columns
--- "Stage 1, rows from the last to the first, with a = N at the start. Among columns 1 to a"
+-- R7.7
 unfoldable pub stage1 : (m n : ℕ) → State → Progress
 stage1 m n u = rows onT n 0 m (record { state = u; a = n })
 
--- "Stage 2 starts with a = N again and does the same, the passing over of all-zero rows included, on the rows of V instead of T, last to first, with
--- columns r + 1 to a in place of 1 to a; nothing is reordered."
+-- R7.12: the same on V, with all of its n rows and the columns from r on
 unfoldable pub stage2 : (n r : ℕ) → State → Progress
 stage2 n r u = rows onV n r n (record { state = u; a = n })
 
@@ -108,12 +107,12 @@ stage2 n r u = rows onV n r n (record { state = u; a = n })
 abbrev pub pivotRow : (n c : ℕ) → State → Found
 pivotRow n c u = last (λ k. not (eqb (size onV u k c) 0)) n
 
--- "for each k from 1 to r, q is the negated floor of entry k by the pivot; where q is not 0, add q times the pivot's column to column k"
+-- R7.13, of column c with the pivot row that was found: each column below r is brought into range
 abbrev pub reduceFirst : (r c : ℕ) → State → Found → State
 reduceFirst r c u none = u
 reduceFirst r c u (found k) = each (reduce onV k c) 0 r u
 
--- "Stage 3 takes the pivot rows of those columns, from the bottom row up": the rows rise with the columns, so the last column comes first.
+-- R7.13: the lowest pivot row first. The rows rise with the columns, so the last column comes first.
 -- Columns r to c are still to be taken.
 unfoldable pub stage3 : (n r c : ℕ) → State → State
 stage3 n r zero u = u
@@ -124,7 +123,7 @@ pub record Run : Type 0 where
   pub state : State
   pub rank : ℕ
 
--- "The number of columns so moved is r."
+-- R7.11: r is the number of columns that the reordering brings to the front
 unfoldable pub runOn : (m n : ℕ) → List (List ℤ) → Run
 runOn m n cols =
     let g : Progress = stage1 m n (start cols) in

@@ -1,4 +1,4 @@
--- Document 01, "The steps": the work state and the three column steps, on whole numbers without limit.
+-- Section 7 of the rules: the work state and the three column steps, on whole numbers without limit.
 use mathlib.Core.Bool.{Bool, false, _||_}
 use mathlib.Core.List.{List, [], _∷_, _++_, map}
 use Prim.Native.Nat.{ℕ, zero, suc}
@@ -47,18 +47,18 @@ abbrev pub anyBeyond : List ℤ → Bool
 anyBeyond [] = false
 anyBeyond (x ∷ xs) = beyond x || anyBeyond xs
 
--- "Each step taken counts one. A value beyond M written to T, V or W refuses": the lines after it, and the values that it wrote
+-- R7.5 and R7.6: the lines after a step, and the values that it wrote
 unfoldable pub step : List Line → (written : List ℤ) → State → State
 step lines written u = record { lines = lines; steps = suc (u .steps); over = u .over || anyBeyond written }
 
 abbrev pub values : Line → List ℤ
 values l = l .t ++ l .v ++ l .w
 
--- "swap i and j (columns of T and V, rows of W)"
+-- R7.2
 unfoldable pub swapStep : (i j : ℕ) → State → State
 swapStep i j u = step (set (set (u .lines) i (line u j)) j (line u i)) (values (line u j) ++ values (line u i)) u
 
--- "negate i (the same)"
+-- R7.3
 abbrev pub negated : Line → Line
 negated l = record { t = map negℤ (l .t); v = map negℤ (l .v); w = map negℤ (l .w) }
 
@@ -71,7 +71,7 @@ plus q [] ys = map (λ y. q *ℤ y) ys
 plus q (x ∷ xs) [] = x ∷ xs
 plus q (x ∷ xs) (y ∷ ys) = (x +ℤ q *ℤ y) ∷ plus q xs ys
 
--- "add q times column i to column j in T and V, and take q times row j from row i in W": line i, then line j, after it
+-- R7.4: line i after an addition, in which W changes, and line j, in which T and V do
 abbrev pub source : ℤ → Line → Line → Line
 source q i j = record { t = i .t; v = i .v; w = plus (negℤ q) (i .w) (j .w) }
 
@@ -85,7 +85,7 @@ addStep i j q u =
     step (set (set (u .lines) i x) j y) (y .t ++ y .v ++ x .w) u
 
 -- ---- the reordering
--- "Then the columns after a come before columns 1 to a, their order kept (rows of W likewise); this counts nothing."
+-- R7.10: the lines from a on, then those below a
 unfoldable pub reorder : (a : ℕ) → State → State
 reorder a u = record { lines = drop a (u .lines) ++ take a (u .lines); steps = u .steps; over = u .over }
 
@@ -96,7 +96,7 @@ unit zero i = []
 unit (suc n) zero = pos 1 ∷ replicate n (pos 0)
 unit (suc n) (suc i) = pos 0 ∷ unit n i
 
--- "Work begins with T = C, V and W the identity": the columns listed are column i of C and those after it
+-- R7.1: the columns listed are column i of C and those after it
 unfoldable pub startLines : (n i : ℕ) → List (List ℤ) → List Line
 startLines n i [] = []
 startLines n i (c ∷ cs) = record { t = c; v = unit n i; w = unit n i } ∷ startLines n (suc i) cs

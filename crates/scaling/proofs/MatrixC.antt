@@ -1,4 +1,4 @@
--- The matrix C of a problem within document 01's limits: its size, its entries as the code finds them, that they are small, and C filled in row after row.
+-- The matrix C of a problem within the limits: its size, its entries as the code finds them, that they are small, and C filled in row after row.
 use mathlib.Core.Path.{_≡_, refl, sym, _∙_}
 use mathlib.Core.Logic.{_≢_}
 use mathlib.Core.Bool.{Bool}

@@ -1,5 +1,5 @@
 -- The code's work state as the definition's: line i is column i of T, column i of V, row i of W.
--- n is document 01's N, the number of columns.
+-- n is N of R5.1, the number of columns.
 use mathlib.Core.Path.{_≡_}
 use mathlib.Core.Logic.{_≢_}
 use mathlib.Core.Bool.{Bool, true, false, cond}

@@ -20,7 +20,7 @@ mod work;
 
 use checks::both;
 
-// What a build answers: the number 0 with the rank, the count of non-zero moduli and the number of column steps; or a refusal's number and place.
+// What a build answers: the number 0 with the rank, how many rows have a modulus and how many steps it took; or a refusal's number and place.
 #[repr(C)]
 pub struct BuildAnswer {
     pub number: u32,

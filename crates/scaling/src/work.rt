@@ -33,7 +33,7 @@ use checks::ROOM_H;
 use checks::ROOM_V;
 use checks::is_zero;
 
-// T is m by cols, V and W are cols by cols, row after row without gaps; cols is document 01's N.
+// T is m by cols, V and W are cols by cols, row after row without gaps; cols is N of R5.1.
 pub struct Work {
     pub t: [i32; ROOM_H],
     pub v: [i32; ROOM_V],
@@ -96,7 +96,7 @@ pub fn next_pivot(x: &[i32], base: usize, p: usize, j: usize) -> usize
     if is_zero(x[j + base]) { p } else { j }
 }
 
-// The negated quotient of entry j by entry p, cut toward zero.
+// q of (A): minus the quotient of entry j by entry p, which is cut toward zero.
 pub fn quotient(x: &[i32], base: usize, p: usize, j: usize) -> i64
     requires { ⌜ Divisible (now x) base p j ⌝ }
     ensures { λ r. ⌜ r ≡ negℤ (quotZ (nth (now (x .entry)) (j + base)) (nth (now (x .entry)) (p + base))) ⌝ }

@@ -1,4 +1,4 @@
--- What an accepted call knows of its input: every check has passed, so the limits of document 01 hold, and every term of a formula is free and
+-- What an accepted call knows of its input: every check has passed, so the limits of the rules hold, and every term of a formula is free and
 -- translates within M.
 use mathlib.Core.Path.{_≡_, refl}
 use mathlib.Core.Bool.{Bool, true, false, not, _&&_}

@@ -123,7 +123,7 @@ pub second-hermite : {n r : ℕ} {C : Matrix} {u w : State} → r ≤ n → Afte
     → Hermite n (n - r) (n - r) (from r (get onV w)) (lowestRow (from r (get onV w)) n)
 second-hermite {n} {r} {w = w} fit v = finished-hermite n r w fit (v .finished)
 
--- the pivot rows rise with the columns: "from the bottom row up" is from the last column to the first, as stage 3 goes
+-- the pivot rows rise with the columns: the lowest row first (R7.13) is the last column first, as stage 3 goes
 pub second-rising : {n r : ℕ} {C : Matrix} {u w : State} → AfterSecond n r C u w → (c d k l : ℕ) → In r n c → In r n d → pivotRow n c w ≡ found k
     → pivotRow n d w ≡ found l → c < d → k < l
 second-rising {n} {r} {w = w} v c d k l i j x y h =

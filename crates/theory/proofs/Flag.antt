@@ -129,7 +129,7 @@ over-exactly {u = u} {w = w} s = (λ e. to (or-either (u .over) (anyBeyond (writ
     back (inr e) = ap (λ b. u .over || b) (beyond-some (written s) e) ∙ or-true (u .over)
 
 -- ---- of a problem's run
--- "a step of the build writes a value beyond M either way"
+-- R4.7
 pub run-over : (P : Problem) → (run P .state .over ≡ true) ↔ SomeBeyond (written (run-steps P))
 run-over P = (λ e. to (over-exactly (run-steps P) .0 e), λ s. over-exactly (run-steps P) .1 (inr s))
   where
@@ -137,6 +137,6 @@ run-over P = (λ e. to (over-exactly (run-steps P) .0 e), λ s. over-exactly (ru
     to (inl e) = absurd (false≢true e)
     to (inr s) = s
 
--- "the number of column steps"
+-- R7.5
 pub run-counted : (P : Problem) → run P .state .steps ≡ taken (run-steps P)
 run-counted P = steps-counted (run-steps P) ∙ omega arith

@@ -1,4 +1,4 @@
--- The groups, which are the last d columns of V cut to the quantity rows: they are in column Hermite form, so that there are at most n of them.
+-- The groups (R6.6): they are in column Hermite form, so that there are at most n of them.
 use mathlib.Core.Path.{_≡_, sym, _∙_, ap}
 use mathlib.Core.Logic.{_⊎_, inl, inr}
 use Prim.Native.Nat.{ℕ, zero, suc, _+_, _-_, _≤_, _<_}

@@ -2,7 +2,7 @@
 --
 -- 1. Kept throughout: T = C·V, V·W = I, W·V = I and the shapes hold at the start, after every column step and after the reordering.
 --      Start.start-holds, .start-shape, Equations.swap-holds, .negate-holds, .add-holds, .reorder-holds; of any sequence of steps Sequence.steps-hold, .steps-shape
--- 2. Every repetition ends: in (A) the sum of absolute values in the active columns falls, and the definition's bound cuts no step off.
+-- 2. Every repetition ends: each time that (A) is done the sum of absolute values becomes smaller, and the definition's bound cuts no step off.
 --      Eliminate.total-falls, .eliminate-ends
 -- 3. The run of any problem comes to a right answer; and what each stage leaves.
 --      Run.run-right; AfterStages.first-hermite, .second-hermite, .second-leaves-T, .second-rising, .third-is, .third-leaves-T
@@ -17,7 +17,7 @@
 --    all; a translated formula goes back term for term.
 --      Translation.translated-back, .translated-only, .free-of-groups, .formula-translated-back, .formula-translated-only; the all-zero
 --      exponents and d = 0: .zero-is-free, .free-without-groups
--- 8. Sizes within document 01's limits: every sum and product that code takes stays within 63 bits, the outputs have room, and an accepted run
+-- 8. Sizes within the limits of R2.1 to R2.6: every sum and product that code takes stays within 63 bits, the outputs have room, and an accepted run
 --    takes few steps.
 --      Sizes.add-size, .row-begun-size, .translated-begun-fits, .room-for-H and its like; RunRange.well-formed-moderate,
 --      .run-entries, .run-entriesW; RunBound.run-bound

@@ -109,7 +109,7 @@ module _ (n r : ℕ) (u : State) where
   unfolding stage3
   stage3-step c h = rw (le-ltb c r h, stage3)
 
--- ---- a row: "if the row is all zero, go to the next row"
+-- ---- a row: it is passed over if its active columns are all 0 (R7.7)
 pub row-pass : (tb : Table) (n lo k : ℕ) (g : Progress) → ((c : ℕ) → In lo (g .a) c → size tb (g .state) k c ≡ 0) → row tb n lo k g ≡ g
 unfolding row next
 row-pass tb n lo k g z =

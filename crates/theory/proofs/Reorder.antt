@@ -1,5 +1,4 @@
--- The reordering, "the columns after a come before columns 1 to a, their order kept": where each line comes from, and that T = C·V, V·W = I and W·V
--- = I are kept.
+-- The reordering (R7.10): where each line comes from, and that T = C·V, V·W = I and W·V = I are kept.
 use mathlib.Core.Path.{_≡_, sym, _∙_, ap, ap₂}
 use mathlib.Core.Bool.{Bool, true, false}
 use mathlib.Core.List.{_++_}

@@ -1,4 +1,4 @@
--- Theorem 3: the run ends with r, H, V and W as document 01 wants them; and it is a sequence of steps from the start.
+-- Theorem 3: the run ends with r, H, V and W as section 6 of the rules wants them; and it is a sequence of steps from the start.
 use mathlib.Core.Path.{_≡_, subst}
 use mathlib.Core.List.{List}
 use Prim.Native.Nat.{ℕ, _-_}

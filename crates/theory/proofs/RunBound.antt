@@ -64,7 +64,7 @@ runOn-bound m n cols f o = omega (
     fv : NearState n v
     fv = steps-fine (reordered (g .a) (done .stands .high) (follow (omega arith) begin (done .moves))) f
 
--- an accepted problem takes at most m·(32N + 2) + N·(32d + 2) + d·r column steps, where d is N - r
+-- if a problem is accepted, its steps are at most m·(32N + 2) + N·(32d + 2) + d·r, where d is N - r
 pub run-bound : (P : Problem) → Moderate P → run P .state .over ≡ false
     → run P .state .steps ≤ P .m * (32 * N P + 2) + N P * (32 * (N P - run P .rank) + 2) + (N P - run P .rank) * run P .rank
 unfolding run

@@ -64,7 +64,7 @@ written begin = []
 written (then s m) = written s ++ writtenBy m
 written (reordered a h s) = written s
 
--- ---- how many steps: "Each step taken counts one"; the reordering "counts nothing"
+-- ---- how many steps: R7.5; the reordering is none (R7.10)
 abbrev pub taken : {n : ℕ} {u w : State} → Steps n u w → ℕ
 taken begin = 0
 taken (then s m) = suc (taken s)

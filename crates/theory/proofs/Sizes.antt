@@ -1,4 +1,4 @@
--- Sizes within document 01's limits: no sum or product that the code takes in 64 bits passes them, and the outputs have room for the contents.
+-- Sizes within the limits of R2.1 to R2.6: no sum or product that the code takes in 64 bits passes them, and the outputs have room for the contents.
 use mathlib.Core.Path.{_≡_}
 use Prim.Native.Nat.{ℕ, suc, _+_, _*_, _-_, _≤_, _<_, _^_}
 use native.Mathlib.Omega.{arith}

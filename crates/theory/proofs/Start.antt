@@ -1,4 +1,4 @@
--- The start, "T = C, V and W the identity": its lines, that theorem 1 holds of it, and its shape.
+-- The start (R7.1): its lines, that theorem 1 holds of it, and its shape.
 use mathlib.Core.Path.{_≡_, refl, sym, _∙_, ap}
 use mathlib.Core.List.{List, [], _∷_}
 use Prim.Native.Nat.{ℕ, zero, suc, _+_, _<_}

@@ -98,7 +98,7 @@ module _ (P : Problem) (u : Run) (R : RightRun P u) (v : ℕ → ℤ) where
   unfolding group
   free-of-groups e same = free-of-killed P v (λ c. sum (d P u) (λ g. U u c (u .rank + g) *ℤ e g)) same (combination-killed R e)
 
-  -- "With d = 0 only all-zero exponents are free"
+  -- R8.7
   pub free-without-groups : d P u ≡ 0 → Free P v → (j : ℕ) → j < P .n → v j ≡ pos 0
   free-without-groups z f j b =
       sym (translated-back f j b)

@@ -1,6 +1,6 @@
-//! `problems` prints what the model answers to document 01's known problems, in
-//! its order, in the lines of the proved program of that name; `tests/peer.sh`
-//! holds the two to each other, problem by problem.
+//! `problems` prints what the model answers to the known problems (R10.1 to
+//! R10.13), in their order, in the lines of the proved program of that name;
+//! `tests/peer.sh` holds the two to each other, problem by problem.
 //!
 //! A line with a number alone begins a problem. A build is its rank, moduli and
 //! steps and the rows of H, V and W; a term is its weights and its translation.
@@ -78,7 +78,7 @@ fn answer(problem: u32) {
         10 => build(&problems::ten()),
         11 => build(&problems::eleven()),
         12 => build(&problems::twelve()),
-        // Document 01 names no matrix: those of tests/program/known-13-*.in.
+        // R10.13 names no matrix: those of tests/program/known-13-*.in.
         13 => {
             build(&problems::thirteen([1000, 0]));
             build(&problems::thirteen([0, 1001]));

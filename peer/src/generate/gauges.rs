@@ -12,7 +12,7 @@ use crate::model::{Problem, MOST_ROWS};
 use crate::problems;
 use crate::random::Random;
 
-/// A problem within document 01's limits; often with small exponents, with some
+/// A problem within the limits; often with small exponents, with some
 /// near 64, without a group, or refused 7.
 fn problem(random: &mut Random) -> Problem {
     match random.below(12) {

@@ -1,5 +1,5 @@
 //! The build, the weights and the translation as calls on lent slices, with
-//! the checks in document 01's order.
+//! the checks in the order of R3.1.
 //!
 //! Each call has a form on number slices; the build and the translation also
 //! have one on byte slices, each number four bytes, big-endian two's complement.
@@ -101,8 +101,8 @@ fn check_formula(n: usize, coefficients: Count, exponents: Count) -> Result<(), 
     }
 }
 
-/// 3: a lent output is shorter than its size. Each output has its count and its
-/// size.
+/// 3: an output has too little room. Each output has its count and the least
+/// count of R2.9.
 fn check_outputs(outputs: &[(Count, usize)]) -> Result<(), Refusal> {
     let long_enough = |&(count, size): &(Count, usize)| count.is_some_and(|count| count >= size);
     if outputs.iter().all(long_enough) {
@@ -226,8 +226,8 @@ pub fn from_bytes(bytes: &[u8]) -> Vec<i32> {
         .collect()
 }
 
-/// What a build returns: "rank r, the count s of non-zero moduli, and the number
-/// of column steps"; on a refusal zero in every other field.
+/// What a build returns: r, s and the count of steps; on a refusal zero in every
+/// other field.
 fn build_answer(result: &Result<(Problem, Built), Refusal>) -> BuildAnswer {
     match result {
         Ok((problem, built)) => BuildAnswer {

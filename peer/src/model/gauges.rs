@@ -1,6 +1,5 @@
-//! Order 2 of document 02, "Groups from the gauges": the value of one group from
-//! a set of readings, with the checks in their order: 1, 2, 4, 5, 7, 11, 24, 12
-//! and 13.
+//! Section 22 of the rules (order 2): the value of one group from a set of
+//! readings, with the checks in their order: 1, 2, 4, 5, 7, 11, 24, 12 and 13.
 
 use super::calls::{build_numbers, check_inputs, check_sizes, Built};
 use super::{refused, Problem, Refusal};
@@ -163,7 +162,7 @@ mod tests {
         }
     }
 
-    /// The groups of problems 4, 5 and 8, as document 01 has them.
+    /// The groups of R10.4, R10.5 and R10.8.
     #[test]
     fn groups_of_known_problems() {
         let groups = |problem: &Problem, count: usize| -> Vec<Vec<i128>> {
@@ -180,7 +179,7 @@ mod tests {
         assert!(groups(&problems::two(), 0).is_empty());
     }
 
-    /// The order's promise on powers of two: while no running value leaves 2^-1022 to
+    /// R22.4, powers of two: while no running value leaves 2^-1022 to
     /// 2^1023, nothing is rounded, and the exponent is what whole numbers add up to.
     /// Every power is tried, subnormal ones too, and every exponent from -64 to 64.
     #[test]

@@ -1,4 +1,4 @@
-//! "Lines the program reads and prints" of document 01.
+//! The program's lines, section 9 of the rules.
 
 use super::calls::{check_sizes, translate_numbers, Translated};
 use super::{refused, Problem, Refusal, MOST_TERMS};

@@ -1,7 +1,7 @@
-//! "The steps" of document 01, literally, on wide whole numbers.
+//! Section 7 of the rules, literally, on wide whole numbers.
 //!
-//! A run can stop at the first value beyond M, as document 01's build does, or
-//! go on past it to see what would have come.
+//! A run can stop at the first value beyond M, as R7.6 has it, or go on past it
+//! to see what would have come.
 //!
 //! No i128 overflows: a run never takes a step once a value is beyond 2^62
 //! (`GO_ON_BOUND`). Each q is a quotient of one value by another that is not
@@ -16,7 +16,7 @@ pub const GO_ON_BOUND: i128 = 1 << 62;
 /// How far a run goes.
 #[derive(Clone, Copy, Debug, PartialEq, Eq)]
 pub enum Until {
-    /// To the first value beyond M (document 01's refusal 7), or to the end.
+    /// To the first value beyond M (refusal 7), or to the end.
     BeyondM,
     /// To the end, past M, unless a value is beyond `GO_ON_BOUND`.
     TheEnd,
@@ -110,7 +110,7 @@ fn plus(x: i128, q: i128, y: i128) -> i128 {
 }
 
 impl Work {
-    /// "Work begins with T = C, V and W the identity."
+    /// R7.1.
     fn begin(problem: &Problem, until: Until) -> Work {
         let size = problem.columns();
         let mut work = Work {
@@ -194,7 +194,7 @@ impl Work {
             .expect("there are three")
     }
 
-    /// Swap i and j: columns of T and V, rows of W.
+    /// R7.2: swap i and j.
     fn swap(&mut self, i: usize, j: usize) {
         for row in self.t.iter_mut().chain(&mut self.v) {
             row.swap(i, j);
@@ -203,7 +203,7 @@ impl Work {
         self.steps += 1;
     }
 
-    /// Negate i: column i of T and V, row i of W.
+    /// R7.3: negate i.
     fn negate(&mut self, i: usize, stage: Stage) -> Result<(), Stopped> {
         for row in self.t.iter_mut().chain(&mut self.v) {
             row[i] = -row[i];
@@ -217,8 +217,7 @@ impl Work {
         self.judge(stage)
     }
 
-    /// Add q times column i to column j in T and V, and take q times row j from
-    /// row i in W.
+    /// R7.4: add q times i to j. In W it is row i that changes.
     fn add(&mut self, q: i128, i: usize, j: usize, stage: Stage) -> Result<(), Stopped> {
         for row in self.t.iter_mut().chain(&mut self.v) {
             row[j] = plus(row[j], q, row[i]);
@@ -253,9 +252,8 @@ impl Work {
     }
 
     /// One row of stage 1 (`of` is T, `first` is 0) or of stage 2 (`of` is V,
-    /// `first` is r). `a` counts columns as document 01 does: the active columns
-    /// are `first` + 1 to a there, and `first..a` here, where columns count from
-    /// 0. Gives a after the row.
+    /// `first` is r): R7.7 to R7.9. The active columns are `first..a`. Gives a
+    /// after the row.
     fn one_row(
         &mut self,
         of: Of,
@@ -264,15 +262,15 @@ impl Work {
         a: usize,
         (stage_a, stage_b): (Stage, Stage),
     ) -> Result<usize, Stopped> {
-        // "if the row is all zero, go to the next row"
+        // A row without a non-zero active entry is passed over.
         if (first..a).all(|column| self.entry(of, row, column) == 0) {
             return Ok(a);
         }
         // (A)
         let mut repetitions = 0;
         let p = loop {
-            // "the smallest non-zero absolute value in that row, lowest column
-            // on a tie": min_by_key gives the first of equals.
+            // Of several least absolute values the lowest column: min_by_key
+            // gives the first of equals.
             let p = (first..a)
                 .filter(|&column| self.entry(of, row, column) != 0)
                 .min_by_key(|&column| self.entry(of, row, column).abs())
@@ -287,7 +285,7 @@ impl Work {
             self.note_repetitions(repetitions, stage_a, row);
             self.add(q, p, j, stage_a)?;
         };
-        // (B); document 01's column a is `last` here.
+        // (B); `last` is the last active column.
         let last = a - 1;
         if p != last {
             self.swap(p, last);
@@ -305,8 +303,7 @@ impl Work {
         Ok(a - 1)
     }
 
-    /// "Then the columns after a come before columns 1 to a, their order kept
-    /// (rows of W likewise); this counts nothing."
+    /// R7.10: the reordering, which is no step.
     fn reorder(&mut self, a: usize) {
         for row in self.t.iter_mut().chain(&mut self.v) {
             row.rotate_left(a);
@@ -332,7 +329,7 @@ impl Work {
         Ok(())
     }
 
-    /// Stage 3: "the pivot rows of those columns, from the bottom row up".
+    /// Stage 3 (R7.13), the lowest pivot row first.
     fn stage_3(&mut self, r: usize) -> Result<(), Stopped> {
         let size = self.columns();
         let mut pivots: Vec<(usize, usize)> = (r..size)
@@ -357,7 +354,7 @@ impl Work {
     fn all(&mut self) -> Result<usize, Stopped> {
         let a = self.stage_1()?;
         self.reorder(a);
-        // "The number of columns so moved is r."
+        // R7.11: r is the number of columns that came to the front.
         let r = self.columns() - a;
         self.stage_2(r)?;
         self.stage_3(r)?;
