@@ -1,4 +1,4 @@
--- Sections 3 and 4 of the rules, R2.10 and R2.11: what build, weigh and translate answer, and what every lent buffer holds after.
+-- Sections 3 and 4 of the rules, R1.2, R2.10 and R2.11: what build, weigh and translate answer, and what every lent buffer holds after.
 use mathlib.Core.Bool.{Bool, true, false, not, _&&_, _||_}
 use mathlib.Core.List.{List, [], _∷_, _++_}
 use Prim.Native.Nat.{ℕ, _+_, _*_}

@@ -61,7 +61,7 @@ unfoldable pub group : Problem → Run → (g j : ℕ) → ℤ
 group P u g j = U u (s P + j) (u .rank + g)
 
 -- ---- formulas
--- a coefficient for each term, and n exponents for each term, term after term
+-- a coefficient for each term (any: R2.7), and n exponents for each term, term after term
 pub record Formula : Type 0 where
   pub coefficients : List ℤ
   pub exponents : List ℤ

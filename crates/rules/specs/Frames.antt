@@ -107,7 +107,7 @@ abbrev pub formed : (m n : ℕ) → List TextLine → Found → Reading
 formed m n ls (found place) = unread 10 place
 formed m n ls none = contentsOf m n ls
 
--- R9.6: 1 before any line after line 0 is looked at, then 10
+-- R9.6: 1 before any line after line 0 is looked at, then 10 (R4.10)
 unfoldable pub sized : (m n : ℕ) → List TextLine → Reading
 sized m n ls = elim (sizesInRange m n) [ true ↦ formed m n ls (firstBad n m mostTerms 1 ls) | false ↦ unread 1 0 ]
 
@@ -159,7 +159,7 @@ abbrev pub answered : Problem → Formula → Verdict → List ℕ
 answered P f (refused number place) = refusalLine number place
 answered P f taken = printed P f
 
--- what is read has the right lengths, and the program lends itself room enough: 2 and 3 cannot come
+-- R3.6. What is read has the right lengths, and the program lends itself room enough: 2 and 3 cannot come
 abbrev pub answerTo : Reading → List ℕ
 answerTo (unread number place) = refusalLine number place
 answerTo (read P f) = answered P f (translateVerdict P f true true)

@@ -150,6 +150,7 @@ abbrev pub gaugedBy : (n : ℕ) (exponents : ℕ → ℤ) (readings : ℕ → Fl
 gaugedBy n v x taken = value (groupValue n v x)
 gaugedBy n v x (refused number place) = refusal number place (carried x number place)
 
+-- R22.2
 unfoldable pub gaugeOf : Problem → Readings → (group : ℕ) → Gauged
 gaugeOf P R g = gaugedBy (P .n) (group P (run P) g) (reading R) (verdict (gaugeChecks P R g))
 

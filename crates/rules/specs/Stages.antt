@@ -134,6 +134,7 @@ runOn m n cols =
 unfoldable pub run : Problem → Run
 run P = runOn (P .m) (N P) (columns P)
 
+-- R7.14
 abbrev pub H : Run → Matrix
 H u = get onT (u .state)
 
