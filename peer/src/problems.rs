@@ -79,7 +79,7 @@ pub fn twelve() -> Problem {
     )
 }
 
-/// One row of two entries; R10.13 names none but 1000 and 1001.
+/// R10.13: one row of two entries.
 pub fn thirteen(entries: [i32; 2]) -> Problem {
     Problem::of_rows(&[&entries], &[0])
 }

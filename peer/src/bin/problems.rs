@@ -78,7 +78,7 @@ fn answer(problem: u32) {
         10 => build(&problems::ten()),
         11 => build(&problems::eleven()),
         12 => build(&problems::twelve()),
-        // R10.13 names no matrix: those of tests/program/known-13-*.in.
+        // R10.13, as in tests/program/known-13-*.in.
         13 => {
             build(&problems::thirteen([1000, 0]));
             build(&problems::thirteen([0, 1001]));
