@@ -1,32 +1,30 @@
 /*
- * Glaukemis: dimensions as whole numbers. The build, the translation, and a group worked out from gauge readings, for C.
+ * Glaukemis for C and C++: test formulas over dimensionless groups, in whole numbers. examples/pulsator.c shows the whole use on a page;
+ * docs/RULES.md has the rules that the calls are proved against. `bash install.sh PREFIX` installs; then, to compile and link a program,
  *
- * A problem is m rows (dimensions) by n columns (quantities) of whole numbers, with one modulus for each row; a modulus of 0 says
- * that the row has none. Below, s is the count of moduli that are not 0, and N = n + s.
+ *     cc program.c $(pkg-config --cflags --libs glaukemis)
  *
- * NUMBERS IN BYTES. In the build and the translation each number in a lent buffer takes four bytes, big-endian two's complement:
- * 00 00 00 05 is 5, ff ff ff fe is -2. Every length is in bytes: for b numbers in a buffer its length is 4*b.
- * NUMBERS AS THEY ARE. glaukemis_gauge takes arrays of int32_t and double, and its counts are in numbers.
- * In both a matrix stands row after row, from the top row down, each row from its first column on, without gaps.
+ * A PROBLEM has a row for each of m dimensions and a column for each of n quantities: entry j of row i is the power of dimension i in
+ * quantity j. And it has a modulus for each row: 0 for none, or else the p that counts as nothing there. Below, s is the count of moduli
+ * other than 0, N is n + s, r is the rank that the build tells, and d is N - r, the number of groups.
  *
- * BUFFERS. Each buffer is a pointer and then its length or count. Inputs are only read. An output may be longer than it has to be, so
- * long as its length is a multiple of four. No pointer may be null, also where its length is 0, and no output may overlap another buffer of
- * the same call. A length must be that of memory that may be read, and for an output also written.
+ * BUFFERS. Each is a pointer and then its size, which is a count of numbers; only in the calls on bytes it is a length in bytes. A matrix
+ * is lent and written row after row, the top row first, without gaps. Inputs are only read. An output may be longer than the least size
+ * below. No pointer may be null, not even where the size is 0. No output may overlap another buffer of its call. A size must be that of
+ * memory that may be read, and for an output also written.
  *
- * SUCCESS. The answer's number and place are 0. The outputs hold what is told at each call in their first bytes; the bytes behind
- * that are untouched.
+ * TAKEN. Number and place are 0. Each output begins with what its call tells, and behind that it is untouched.
  *
- * REFUSAL. The answer has the refusal's number and place and 0 in every other field, but for refusal 11 of glaukemis_gauge, which
- * carries a reading; and every lent byte is as it was. The checks go in the order in which each call lists them, and the first that
- * finds a fault decides. Places count from 0.
+ * REFUSED. The number tells why, as enum glaukemis_number has it, and the place where, counted from 0. All other fields are 0, but for the
+ * reading that GLAUKEMIS_BAD_READING carries. Nothing that was lent is changed.
  *
- * STATE AND THREADS. The calls keep no state. They may be made from several threads at once, so long as no thread writes a buffer that
- * another one is reading or writing.
+ * THREADS. The calls keep no state, take no memory but the stack, and always return. Several threads may call at once, so long as none
+ * writes a buffer that another one reads or writes.
  *
- * STACK. A call takes less than 0.81 MB of stack, on any input, so that 1 MB is enough: 92,832 bytes where no row takes more than one
- * repetition of document 01's (A), and 10,912 more for each further one in the deepest row, of which there are at most 66. The deepest
- * problem known takes 50, and with them 627,520 bytes. (The bytes were measured, docs/stack.sh, of the library for x86-64; that there are
- * at most 66 is proved.)
+ * STACK. 1 MB is enough for every call on every input. glaukemis_translate takes most: 93,104 bytes where no row takes more than one
+ * repetition of the rules' (A), and 10,912 more for each further one in the deepest row. There are at most 66, as is proved, and with them
+ * it would take 802,384. The deepest problem that is known has 50, and takes 627,792. glaukemis_weigh, which makes no build, takes 56.
+ * (The bytes were measured, by docs/stack.sh, of the library for x86-64.)
  */
 #ifndef GLAUKEMIS_H
 #define GLAUKEMIS_H
@@ -38,59 +36,171 @@
 extern "C" {
 #endif
 
-/* The least lengths of the outputs, in bytes. */
-#define GLAUKEMIS_H_BYTES 768            /* 192 numbers */
-#define GLAUKEMIS_V_BYTES 2304           /* 576 numbers */
-#define GLAUKEMIS_W_BYTES 2304           /* 576 numbers */
-#define GLAUKEMIS_COEFFICIENTS_BYTES 256 /* 64 numbers */
-#define GLAUKEMIS_EXPONENTS_BYTES 4096   /* 1,024 numbers */
+/* The version of this header and its library; docs/DECISIONS.md says what changes each part. */
+#define GLAUKEMIS_VERSION "1.0.0"
+#define GLAUKEMIS_VERSION_MAJOR 1
+#define GLAUKEMIS_VERSION_MINOR 0
+#define GLAUKEMIS_VERSION_PATCH 0
 
+/* The limits. */
+#define GLAUKEMIS_MAX_ROWS 8         /* m is 1 to 8 */
+#define GLAUKEMIS_MAX_QUANTITIES 16  /* n is 1 to 16 */
+#define GLAUKEMIS_MAX_COLUMNS 24     /* N is at most 24 */
+#define GLAUKEMIS_MAX_ENTRY 1000     /* an entry is -1000 to 1000 */
+#define GLAUKEMIS_MAX_MODULUS 1000   /* a modulus is 0 to 1000; 1 is a true one */
+#define GLAUKEMIS_MAX_TERMS 64       /* a formula has 0 to 64 terms */
+#define GLAUKEMIS_MAX_EXPONENT 10000 /* an exponent of a term is -10,000 to 10,000; a coefficient is any int32_t */
+#define GLAUKEMIS_MAX_READINGS 16    /* there are n readings */
+#define GLAUKEMIS_MAX_POWER 64       /* a group that is worked out from readings has exponents -64 to 64 */
+#define GLAUKEMIS_M 2147483647       /* M: what a step of the build writes, and a translated exponent, is -M to M */
+
+/* The least sizes of the outputs, in numbers, whatever the problem; and in bytes, for the calls on bytes. */
+#define GLAUKEMIS_H_COUNT 192
+#define GLAUKEMIS_V_COUNT 576
+#define GLAUKEMIS_W_COUNT 576
+#define GLAUKEMIS_WEIGHTS_COUNT 8
+#define GLAUKEMIS_KEPT_COUNT 64
+#define GLAUKEMIS_TRANSLATED_COUNT 1024
+#define GLAUKEMIS_H_BYTES (4 * GLAUKEMIS_H_COUNT)
+#define GLAUKEMIS_V_BYTES (4 * GLAUKEMIS_V_COUNT)
+#define GLAUKEMIS_W_BYTES (4 * GLAUKEMIS_W_COUNT)
+#define GLAUKEMIS_KEPT_BYTES (4 * GLAUKEMIS_KEPT_COUNT)
+#define GLAUKEMIS_TRANSLATED_BYTES (4 * GLAUKEMIS_TRANSLATED_COUNT)
+
+/*
+ * What the number of an answer says. The checks go in the order of this list, so 24 before 12, and the first to find a fault decides. Each
+ * call tells which of them it makes.
+ */
+enum glaukemis_number {
+    GLAUKEMIS_TAKEN = 0,               /* no fault */
+    GLAUKEMIS_BAD_SIZES = 1,           /* m or n is beyond its limits. Place 0 */
+    GLAUKEMIS_BAD_INPUT_LENGTH = 2,    /* an input is shorter or longer than its call tells, or has more than 64 terms. Place 0 */
+    GLAUKEMIS_BAD_OUTPUT_LENGTH = 3,   /* an output is shorter than its least size. Place 0 */
+    GLAUKEMIS_BAD_MODULUS = 4,         /* a modulus is beyond its limits. Place: the first such row */
+    GLAUKEMIS_BAD_ENTRY = 5,           /* an entry is beyond its limits. Place: the first such entry as the matrix is lent */
+    GLAUKEMIS_BAD_EXPONENT = 6,        /* an exponent is beyond its limits. Place: the first such exponent as they are lent */
+    GLAUKEMIS_BUILD_OVERFLOW = 7,      /* the steps of the build come to a value beyond M, to either side. Place 0 */
+    GLAUKEMIS_NOT_FREE = 8,            /* a term is not free of dimension: one of its weights is not 0. Place: the term */
+    GLAUKEMIS_TRANSLATED_OVERFLOW = 9, /* an exponent of a term comes to a value beyond M, to either side. Place: the term */
+    GLAUKEMIS_BAD_LINE = 10,           /* no call's: the program glaukemis read a bad line, or missed one. Place: the first such line */
+    GLAUKEMIS_BAD_READING = 11,        /* a reading is not finite or not above zero; the answer carries it. Place: the first such reading */
+    GLAUKEMIS_NO_GROUP = 24,           /* there is no such group. Place: the group's number as it was given */
+    GLAUKEMIS_BAD_POWER = 12,          /* an exponent of the group is beyond 64, to either side. Place: the group's number */
+    GLAUKEMIS_BAD_VALUE = 13           /* the value, or one on the way to it, is zero or not finite. Place: the group's number */
+};
+
+/* The answers. */
 typedef struct {
-    uint32_t number; /* 0, or the number of the refusal */
-    uint32_t place;  /* the refusal's place, else 0 */
-    uint32_t rank;   /* the rank r */
-    uint32_t moduli; /* the count s of moduli that are not 0 */
-    uint64_t steps;  /* the number of column steps taken */
+    uint32_t number; /* of enum glaukemis_number */
+    uint32_t place;
+    uint32_t rank;   /* r */
+    uint32_t moduli; /* s */
+    uint64_t steps;  /* how many column steps the build took */
 } glaukemis_build_answer;
 
 typedef struct {
-    uint32_t number; /* 0, or the number of the refusal */
-    uint32_t place;  /* the refusal's place, else 0 */
-    uint32_t d;      /* the count d = N - r of groups */
+    uint32_t number; /* of enum glaukemis_number */
+    uint32_t place;
+} glaukemis_weigh_answer;
+
+typedef struct {
+    uint32_t number; /* of enum glaukemis_number */
+    uint32_t place;
+    uint32_t d; /* the number of groups */
 } glaukemis_translate_answer;
 
 typedef struct {
-    uint32_t number; /* 0, or the number of the refusal */
-    uint32_t place;  /* the refusal's place, else 0 */
-    double value;    /* the group's value; of refusal 11 the reading at fault, of every other refusal 0.0 */
+    uint32_t number; /* of enum glaukemis_number */
+    uint32_t place;
+    double value; /* the group's value; of GLAUKEMIS_BAD_READING the reading, bit for bit; of any other refusal 0.0 */
 } glaukemis_gauge_answer;
 
+/* ---------------------------------------------------------------------------------------------------------------- calls on numbers */
+
 /*
- * The build: the column Hermite form H of the problem's matrix C, the normal multiplier V and its inverse W.
+ * glaukemis_build_numbers: finds the groups of a problem, with its Hermite form, the multiplier and the inverse.
  *
- * C has a column for each row with a modulus p, from the top row down: -p in that row and 0 elsewhere; and behind these s columns the
- * n columns of the problem.
+ * Of the matrix C, which has first a column for every modulus p other than 0, with -p in its row and 0 in the others, top row first, and
+ * then the columns of the problem, these are the column Hermite form H, the normal multiplier V, for which C*V is H, and W, inverse to V.
+ * Group g, from 0, has for quantity j, from 0, the exponent v[(s + j) * N + r + g].
  *
- * Inputs
- *   m            1 to 8, the rows
- *   n            1 to 16, the quantities
- *   matrix       4*m*n bytes: the m*n entries, each -1000 to 1000
- *   moduli       4*m bytes: a modulus for each row, each 0 to 1000; 1 is a true modulus
- *
- * Outputs, on success
- *   h            at least 768 bytes; its first 4*m*N hold H, m rows of N numbers, with the zero columns
- *   v            at least 2304 bytes; its first 4*N*N hold V, N rows of N numbers
- *   w            at least 2304 bytes; its first 4*N*N hold W, N rows of N numbers
- *   the answer   number 0, place 0, the rank, the count of moduli that are not 0 and the number of column steps
- *
- * Refusals
- *   1  m or n is out of range                                                                   place 0
- *   2  matrix is not 4*m*n bytes long, or moduli not 4*m                                        place 0
- *   3  h, v or w is shorter than told above, or its length is no multiple of four               place 0
- *   4  a modulus is out of range                                                                place: the first such row
- *   5  an entry of the matrix is out of range                                                   place: the first such entry, row after row
- *   7  a step of the build writes a value beyond 2,147,483,647 either way                       place 0
+ * Lend
+ *   matrix        m*n numbers
+ *   moduli        m numbers
+ *   h, v, w       at least GLAUKEMIS_H_COUNT, GLAUKEMIS_V_COUNT and GLAUKEMIS_W_COUNT numbers
+ * Back come
+ *   h             in its first m*N numbers H, with its zero columns
+ *   v, w          in their first N*N numbers V and W
+ *   the answer    with rank, moduli and steps
+ * Refusals: 1, 2, 3, 4, 5 and 7.
  */
+glaukemis_build_answer glaukemis_build_numbers(
+    uint32_t m, uint32_t n,
+    const int32_t *matrix, size_t matrix_count,
+    const int32_t *moduli, size_t moduli_count,
+    int32_t *h, size_t h_count,
+    int32_t *v, size_t v_count,
+    int32_t *w, size_t w_count);
+
+/*
+ * glaukemis_weigh: tells the dimension of one term, so that one sees why it is not free of dimension.
+ *
+ * The term's weight in a row is the sum of each entry times the exponent of its quantity. Where the row has a modulus p it is what C's %
+ * makes of that sum and p: the remainder, with the sign of the sum. A term all of whose weights are 0 is free of dimension.
+ *
+ * Lend
+ *   matrix        m*n numbers
+ *   moduli        m numbers
+ *   exponents     n numbers: the exponent of each quantity
+ *   weights       at least GLAUKEMIS_WEIGHTS_COUNT numbers
+ * Back come
+ *   weights       in its first m numbers the weight in each row
+ *   the answer
+ * Refusals: 1, 2, 3, 4, 5 and 6. There is no build, and so no 7.
+ */
+glaukemis_weigh_answer glaukemis_weigh(
+    uint32_t m, uint32_t n,
+    const int32_t *matrix, size_t matrix_count,
+    const int32_t *moduli, size_t moduli_count,
+    const int32_t *exponents, size_t exponents_count,
+    int32_t *weights, size_t weights_count);
+
+/*
+ * glaukemis_translate_numbers: writes a formula, each of whose terms is free of dimension, in the groups of the problem.
+ *
+ * Put for each group the exponents that the build tells of it, and the formula comes back, term for term.
+ *
+ * Lend, for t terms, 0 to GLAUKEMIS_MAX_TERMS
+ *   matrix        m*n numbers
+ *   moduli        m numbers
+ *   coefficients  t numbers, which tell how many terms there are
+ *   exponents     t*n numbers: the exponent of each quantity, term after term
+ *   kept          at least GLAUKEMIS_KEPT_COUNT numbers
+ *   translated    at least GLAUKEMIS_TRANSLATED_COUNT numbers
+ * Back come
+ *   kept          in its first t numbers the coefficients as they are
+ *   translated    in its first t*d numbers the exponent of each group, term after term
+ *   the answer    with d
+ * Refusals: 1 to 9. Of 8 and 9 the lowest term with either decides, and if it has both, 8.
+ */
+glaukemis_translate_answer glaukemis_translate_numbers(
+    uint32_t m, uint32_t n,
+    const int32_t *matrix, size_t matrix_count,
+    const int32_t *moduli, size_t moduli_count,
+    const int32_t *coefficients, size_t coefficients_count,
+    const int32_t *exponents, size_t exponents_count,
+    int32_t *kept, size_t kept_count,
+    int32_t *translated, size_t translated_count);
+
+/* ------------------------------------------------------------------------------------------------------------------ calls on bytes */
+
+/*
+ * The same over bytes, as they come by a wire or from a file. In a buffer each number takes four bytes, big-endian two's complement:
+ * 00 00 00 05 is 5, ff ff ff fe is -2. Every size is four times what it is above (GLAUKEMIS_H_BYTES and so on), and one that is no
+ * multiple of four is refused, an input's as 2 and an output's as 3. All else is as it is above.
+ */
+
+/* glaukemis_build: glaukemis_build_numbers over bytes. */
 glaukemis_build_answer glaukemis_build(
     uint32_t m, uint32_t n,
     const uint8_t *matrix, size_t matrix_length,
@@ -99,32 +209,7 @@ glaukemis_build_answer glaukemis_build(
     uint8_t *v, size_t v_length,
     uint8_t *w, size_t w_length);
 
-/*
- * The translation of a formula that is free of dimension into the problem's groups, the last d columns of V.
- *
- * Inputs
- *   m, n, matrix, moduli   as for the build
- *   coefficients           4 bytes for each term, of which there are 0 to 64: any numbers of 32 bits
- *   exponents              4*n bytes for each term, term after term: the exponents of the n quantities, each -10,000 to 10,000
- *
- * Outputs, on success, for t terms
- *   kept                   at least 256 bytes; its first 4*t hold the coefficients as they were
- *   translated             at least 4096 bytes; its first 4*t*d hold the d exponents of each term, term after term
- *   the answer             number 0, place 0, and d
- *
- * Refusals
- *   1  m or n is out of range                                                                   place 0
- *   2  matrix is not 4*m*n bytes long, moduli not 4*m, coefficients not 4 or exponents not
- *      4*n for each term, a length is no multiple of four, or there are more than 64 terms      place 0
- *   3  kept or translated is shorter than told above, or its length is no multiple of four      place 0
- *   4  a modulus is out of range                                                                place: the first such row
- *   5  an entry of the matrix is out of range                                                   place: the first such entry, row after row
- *   6  an exponent is out of range                                                              place: the first such exponent, term after term
- *   7  a step of the build writes a value beyond 2,147,483,647 either way                       place 0
- *   8  a term has a weight that is not 0, so is not free of dimension                           place: the term
- *   9  a translated exponent is beyond 2,147,483,647 either way                                 place: the term
- * Of 8 and 9 the lowest term that is refused decides, and in one term 8 comes before 9.
- */
+/* glaukemis_translate: glaukemis_translate_numbers over bytes. */
 glaukemis_translate_answer glaukemis_translate(
     uint32_t m, uint32_t n,
     const uint8_t *matrix, size_t matrix_length,
@@ -134,34 +219,27 @@ glaukemis_translate_answer glaukemis_translate(
     uint8_t *kept, size_t kept_length,
     uint8_t *translated, size_t translated_length);
 
+/* -------------------------------------------------------------------------------------------------------------------------- gauges */
+
 /*
- * The value of one group, worked out from a reading for each quantity. The group's exponents are those of its column of V, in the quantity
- * rows. The value begins at 1.0. Then come the quantities, one after the other: for an exponent e above 0 there are e products with the
- * quantity's reading, for -e there are e quotients by it. The value is what these operations come to, bit for bit. If all readings are
- * powers of two, subnormal ones included, and no running value leaves 2^-1022 to 2^1023, nothing is rounded and the value is exact.
- * Each product and each quotient is rounded to the nearest double, on a tie to the even one. The caller leaves the machine's arithmetic
- * as it is at the start of a program: no fesetround, no floating-point traps, and no subnormals flushed to zero, as a program does that
- * is linked with -ffast-math. The call may raise the floating-point flags.
+ * glaukemis_gauge: works out the value of one group from a reading for each quantity.
  *
- * Inputs
- *   m, n         as for the build
- *   matrix       m*n numbers: the entries, each -1000 to 1000
- *   moduli       m numbers: a modulus for each row, each 0 to 1000
- *   readings     n numbers: the reading of each quantity, finite and above zero; subnormal readings are taken
- *   group        the group's number, counted from 0: 0 to d - 1, where d = N - rank is what the build and the translation tell
+ * The value begins at 1.0. Then come the quantities, one after the other, with their exponents in the group: for an exponent e above 0
+ * there are e products with the quantity's reading, for -e there are e quotients by it. The value is what these operations come to, bit for
+ * bit, each rounded to the nearest double, on a tie to the even one. If all readings are powers of two, subnormal ones included, and no
+ * value on the way leaves 2^-1022 to 2^1023, nothing is rounded and the value is exact.
  *
- * The answer, on success: number 0, place 0, and the value
+ * The caller leaves the machine's arithmetic as it is at the start of a program: no fesetround, no floating-point traps, and no subnormals
+ * flushed to zero, as a program does that is linked with -ffast-math. The call may raise the floating-point flags.
  *
- * Refusals, in the order in which they are judged; each carries 0.0 in `value`, but for 11
- *   1  m or n is out of range                                                                   place 0
- *   2  matrix has not m*n numbers, moduli not m or readings not n                               place 0
- *   4  a modulus is out of range                                                                place: the first such row
- *   5  an entry of the matrix is out of range                                                   place: the first such entry, row after row
- *   7  a step of the build writes a value beyond 2,147,483,647 either way                       place 0
- *  11  a reading is not finite or not above zero; `value` is that reading, bit for bit          place: the first such reading
- *  24  there is no such group                                                                   place: the group's number
- *  12  an exponent of the group is beyond 64 either way                                         place: the group's number
- *  13  a running value is zero or not finite                                                    place: the group's number
+ * Lend
+ *   matrix        m*n numbers
+ *   moduli        m numbers
+ *   readings      n numbers: the reading of each quantity, finite and above zero; subnormal readings are taken
+ *   group         the group's number, 0 to d - 1
+ * Back comes
+ *   the answer    with the value
+ * Refusals: 1, 2, 4, 5, 7, 11, 24, 12 and 13. There is no output, and so no 3.
  */
 glaukemis_gauge_answer glaukemis_gauge(
     uint32_t m, uint32_t n,

@@ -11,7 +11,8 @@
 #include <ucontext.h>
 #include "glaukemis.h"
 
-enum { STACK = 4 << 20, GUARD = 64 << 10, ROWS = 8, QUANTITIES = 16, TERMS = 64, PROBLEMS = 64, CALLS = 3 };
+enum { STACK = 4 << 20, GUARD = 64 << 10, PROBLEMS = 64, CALLS = 6 };
+enum { ROWS = GLAUKEMIS_MAX_ROWS, QUANTITIES = GLAUKEMIS_MAX_QUANTITIES, TERMS = GLAUKEMIS_MAX_TERMS };
 
 /* The proved most of repetitions of (A) in a row. */
 enum { BOUND = 66 };
@@ -24,7 +25,7 @@ struct problem {
     int32_t moduli[ROWS], matrix[ROWS * QUANTITIES];
 };
 
-static const char *const call_name[CALLS] = {"build", "translate", "gauge"};
+static const char *const call_name[CALLS] = {"build_numbers", "weigh", "translate_numbers", "build", "translate", "gauge"};
 
 static struct problem problems[PROBLEMS];
 static long bytes[PROBLEMS][CALLS]; /* what each call took on each problem */
@@ -32,14 +33,17 @@ static int count;
 
 static uint8_t *stack; /* the painted one, from its lowest byte */
 
-/* What the calls are lent, and what they answered. */
+/* What the calls are lent, numbers and bytes, and what they answered. The formula is all 0, and so free of dimension. */
 static const struct problem *given;
-static uint8_t matrix[4 * ROWS * QUANTITIES], moduli[4 * ROWS];
-static uint8_t h[GLAUKEMIS_H_BYTES], v[GLAUKEMIS_V_BYTES], w[GLAUKEMIS_W_BYTES];
-static uint8_t coefficients[4 * TERMS], exponents[4 * TERMS * QUANTITIES]; /* all 0, and so free of dimension */
-static uint8_t kept[GLAUKEMIS_COEFFICIENTS_BYTES], translated[GLAUKEMIS_EXPONENTS_BYTES];
+static int32_t h[GLAUKEMIS_H_COUNT], v[GLAUKEMIS_V_COUNT], w[GLAUKEMIS_W_COUNT], weights[GLAUKEMIS_WEIGHTS_COUNT];
+static int32_t coefficients[TERMS], exponents[TERMS * QUANTITIES], kept[GLAUKEMIS_KEPT_COUNT], translated[GLAUKEMIS_TRANSLATED_COUNT];
+static uint8_t matrix_bytes[4 * ROWS * QUANTITIES], moduli_bytes[4 * ROWS];
+static uint8_t h_bytes[GLAUKEMIS_H_BYTES], v_bytes[GLAUKEMIS_V_BYTES], w_bytes[GLAUKEMIS_W_BYTES];
+static uint8_t coefficients_bytes[4 * TERMS], exponents_bytes[4 * TERMS * QUANTITIES];
+static uint8_t kept_bytes[GLAUKEMIS_KEPT_BYTES], translated_bytes[GLAUKEMIS_TRANSLATED_BYTES];
 static double readings[QUANTITIES];
 static glaukemis_build_answer built;
+static glaukemis_weigh_answer weighed;
 static glaukemis_translate_answer changed;
 static glaukemis_gauge_answer gauged;
 
@@ -47,6 +51,23 @@ static glaukemis_gauge_answer gauged;
 #pragma GCC diagnostic push
 #pragma GCC diagnostic ignored "-Wunused-parameter"
 #define EMPTY __attribute__((noipa)) static
+EMPTY glaukemis_build_answer empty_build_numbers(
+    uint32_t m, uint32_t n, const int32_t *a, size_t al, const int32_t *p, size_t pl, int32_t *x, size_t xl, int32_t *y, size_t yl,
+    int32_t *z, size_t zl)
+{
+    return (glaukemis_build_answer){0};
+}
+EMPTY glaukemis_weigh_answer empty_weigh(
+    uint32_t m, uint32_t n, const int32_t *a, size_t al, const int32_t *p, size_t pl, const int32_t *e, size_t el, int32_t *x, size_t xl)
+{
+    return (glaukemis_weigh_answer){0};
+}
+EMPTY glaukemis_translate_answer empty_translate_numbers(
+    uint32_t m, uint32_t n, const int32_t *a, size_t al, const int32_t *p, size_t pl, const int32_t *c, size_t cl, const int32_t *e,
+    size_t el, int32_t *k, size_t kl, int32_t *t, size_t tl)
+{
+    return (glaukemis_translate_answer){0};
+}
 EMPTY glaukemis_build_answer empty_build(
     uint32_t m, uint32_t n, const uint8_t *a, size_t al, const uint8_t *p, size_t pl, uint8_t *x, size_t xl, uint8_t *y, size_t yl,
     uint8_t *z, size_t zl)
@@ -67,24 +88,44 @@ EMPTY glaukemis_gauge_answer empty_gauge(
 #pragma GCC diagnostic pop
 
 /* The functions that are called now: those of the library, or the empty ones. */
+static __typeof__(glaukemis_build_numbers) *build_numbers;
+static __typeof__(glaukemis_weigh) *weigh;
+static __typeof__(glaukemis_translate_numbers) *translate_numbers;
 static __typeof__(glaukemis_build) *build;
 static __typeof__(glaukemis_translate) *translate;
 static __typeof__(glaukemis_gauge) *gauge;
 
+static void do_build_numbers(void)
+{
+    built = build_numbers(given->m, given->n, given->matrix, given->m * given->n, given->moduli, given->m, h, GLAUKEMIS_H_COUNT, v,
+        GLAUKEMIS_V_COUNT, w, GLAUKEMIS_W_COUNT);
+}
+static void do_weigh(void)
+{
+    weighed = weigh(given->m, given->n, given->matrix, given->m * given->n, given->moduli, given->m, exponents, given->n, weights,
+        GLAUKEMIS_WEIGHTS_COUNT);
+}
+static void do_translate_numbers(void)
+{
+    changed = translate_numbers(given->m, given->n, given->matrix, given->m * given->n, given->moduli, given->m, coefficients, TERMS,
+        exponents, TERMS * given->n, kept, GLAUKEMIS_KEPT_COUNT, translated, GLAUKEMIS_TRANSLATED_COUNT);
+}
 static void do_build(void)
 {
-    built = build(given->m, given->n, matrix, 4 * given->m * given->n, moduli, 4 * given->m, h, sizeof h, v, sizeof v, w, sizeof w);
+    built = build(given->m, given->n, matrix_bytes, 4 * given->m * given->n, moduli_bytes, 4 * given->m, h_bytes, sizeof h_bytes, v_bytes,
+        sizeof v_bytes, w_bytes, sizeof w_bytes);
 }
 static void do_translate(void)
 {
-    changed = translate(given->m, given->n, matrix, 4 * given->m * given->n, moduli, 4 * given->m, coefficients, sizeof coefficients,
-        exponents, 4 * TERMS * given->n, kept, sizeof kept, translated, sizeof translated);
+    changed = translate(given->m, given->n, matrix_bytes, 4 * given->m * given->n, moduli_bytes, 4 * given->m, coefficients_bytes,
+        sizeof coefficients_bytes, exponents_bytes, 4 * TERMS * given->n, kept_bytes, sizeof kept_bytes, translated_bytes,
+        sizeof translated_bytes);
 }
 static void do_gauge(void)
 {
     gauged = gauge(given->m, given->n, given->matrix, given->m * given->n, given->moduli, given->m, readings, given->n, 0);
 }
-static void (*const work[CALLS])(void) = {do_build, do_translate, do_gauge};
+static void (*const work[CALLS])(void) = {do_build_numbers, do_weigh, do_translate_numbers, do_build, do_translate, do_gauge};
 
 static void fail(const char *what)
 {
@@ -129,10 +170,12 @@ static void see(int call)
     uint32_t s = 0;
     for (uint32_t i = 0; i < given->m; i++)
         s += given->moduli[i] != 0;
-    int right[CALLS] = {
-        built.number == 0 && built.place == 0 && built.rank == given->rank && built.moduli == s && built.steps == given->steps,
-        changed.number == 0 && changed.place == 0 && changed.d == given->n + s - given->rank,
-        gauged.number == given->gauge && gauged.place == 0 && gauged.value == (given->gauge == 0 ? 1.0 : 0.0)};
+    int build_right =
+        built.number == 0 && built.place == 0 && built.rank == given->rank && built.moduli == s && built.steps == given->steps;
+    int weigh_right = weighed.number == 0 && weighed.place == 0;
+    int translate_right = changed.number == 0 && changed.place == 0 && changed.d == given->n + s - given->rank;
+    int gauge_right = gauged.number == given->gauge && gauged.place == 0 && gauged.value == (given->gauge == 0 ? 1.0 : 0.0);
+    int right[CALLS] = {build_right, weigh_right, translate_right, build_right, translate_right, gauge_right};
     if (!right[call]) {
         fprintf(stderr, "stack: %s answered other than it should, on %s with %d repetitions\n", call_name[call], given->name,
             given->repetitions);
@@ -150,11 +193,15 @@ static void put(uint8_t *to, const int32_t *numbers, size_t length)
 static void measure(int at)
 {
     given = &problems[at];
-    put(matrix, given->matrix, given->m * given->n);
-    put(moduli, given->moduli, given->m);
+    put(matrix_bytes, given->matrix, given->m * given->n);
+    put(moduli_bytes, given->moduli, given->m);
     for (int call = 0; call < CALLS; call++) {
+        build_numbers = empty_build_numbers, weigh = empty_weigh, translate_numbers = empty_translate_numbers;
         build = empty_build, translate = empty_translate, gauge = empty_gauge;
         long empty = used(work[call]);
+        memset(&built, 0xff, sizeof built), memset(&weighed, 0xff, sizeof weighed);
+        memset(&changed, 0xff, sizeof changed), memset(&gauged, 0xff, sizeof gauged);
+        build_numbers = glaukemis_build_numbers, weigh = glaukemis_weigh, translate_numbers = glaukemis_translate_numbers;
         build = glaukemis_build, translate = glaukemis_translate, gauge = glaukemis_gauge;
         bytes[at][call] = used(work[call]) - empty;
         see(call);
@@ -197,6 +244,17 @@ static const char *grouped(long x)
     else
         sprintf(to, "%ld,%03ld,%03ld", x / 1000000, labs(x) / 1000 % 1000, labs(x) % 1000);
     return to;
+}
+
+static void print_head(void)
+{
+    printf("| repetitions | problem |");
+    for (int call = 0; call < CALLS; call++)
+        printf(" %s |", call_name[call]);
+    printf("\n|---|---|");
+    for (int call = 0; call < CALLS; call++)
+        printf("---|");
+    putchar('\n');
 }
 
 static void row(const char *first, const char *second, const long *of_calls)
@@ -252,8 +310,7 @@ int main(void)
         }
     }
 
-    const char *const head = "| repetitions | problem | build | translate | gauge |\n|---|---|---|---|---|";
-    puts(head);
+    print_head();
     for (int at = 0; at < count; at++)
         if (at < 3 || !in_ladder(at + 1))
             row_of(&problems[at], bytes[at]);
@@ -270,7 +327,7 @@ int main(void)
         return 0;
     }
     puts("\nNot a line, so nothing is computed from it. What the calls took more than that, where it changes:\n");
-    puts(head);
+    print_head();
     for (int at = 1; at < count; at++)
         if (problems[at].repetitions > 0 && (at == 1 || memcmp(more[at], more[at - 1], sizeof more[at]) != 0))
             row_of(&problems[at], more[at]);
