@@ -1,7 +1,7 @@
 #!/usr/bin/env bash
-# The independent second program: its own tests, the static library held to it on COUNT random problems, COUNT random calls of
-# glaukemis_gauge and many fixed ones, the proved program held to it, and the known problems (R10.1 to R10.13) in the proved program
-# `problems` and in the peer.
+# The independent second program: its own tests, the static library held to it on COUNT random problems, over bytes and over
+# numbers, COUNT random calls of glaukemis_weigh, as many of glaukemis_gauge and many fixed ones, the proved program held to it,
+# and the known problems (R10.1 to R10.13) in the proved program `problems` and in the peer.
 # COUNT is 20,000, or the first argument.
 set -u
 cd "$(dirname "$0")/../peer" || exit 1

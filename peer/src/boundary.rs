@@ -2,6 +2,7 @@
 //! are refused 7 for that value alone).
 
 pub mod gauges;
+pub mod weights;
 
 use crate::model::steps::{run, Of, Stage, Until};
 use crate::model::{Problem, M};

@@ -2,6 +2,9 @@
 //! the definitions through `verify`.
 
 pub mod gauges;
+mod lists;
+pub(crate) mod numbers;
+pub mod weights;
 
 use crate::library::Library;
 use crate::model::calls::{
@@ -12,7 +15,7 @@ use crate::model::{Problem, MOST_TERMS};
 use crate::random::Random;
 use crate::verify;
 
-/// One input for both calls, with the byte lengths of the outputs.
+/// One input for the build and the translation, with the byte lengths of the outputs.
 #[derive(Clone, Debug)]
 pub struct Call {
     pub m: u32,
@@ -353,12 +356,15 @@ fn compare_translate(
 pub struct Tally {
     pub build: [u64; 11],
     pub translate: [u64; 11],
+    pub build_numbers: [u64; 11],
+    pub translate_numbers: [u64; 11],
     pub passed: u64,
     pub failed: u64,
 }
 
 impl Tally {
-    /// Compares one input on both calls and counts it; gives what is wrong.
+    /// Compares one input on both calls, over bytes and over numbers, and counts it;
+    /// gives what is wrong.
     pub fn compare(
         &mut self,
         library: &mut dyn Library,
@@ -366,22 +372,32 @@ impl Tally {
         random: &mut Random,
     ) -> Result<(), String> {
         let build = compare_build(library, call, random).map(|(number, _)| number);
-        let translate = compare_translate(library, call, random);
-        if let Ok(number) = build {
-            self.build[number as usize] += 1;
-        }
-        if let Ok(number) = translate {
-            self.translate[number as usize] += 1;
-        }
-        match build.and(translate) {
-            Ok(_) => {
-                self.passed += 1;
-                Ok(())
+        let results = [
+            (build, &mut self.build),
+            (
+                compare_translate(library, call, random),
+                &mut self.translate,
+            ),
+            (
+                numbers::compare_build(library, call, random),
+                &mut self.build_numbers,
+            ),
+            (
+                numbers::compare_translate(library, call, random),
+                &mut self.translate_numbers,
+            ),
+        ];
+        let mut first = Ok(());
+        for (result, kinds) in results {
+            match result {
+                Ok(number) => kinds[number as usize] += 1,
+                Err(error) => first = first.and(Err(error)),
             }
-            Err(error) => {
-                self.failed += 1;
-                Err(error)
-            }
         }
+        match first {
+            Ok(()) => self.passed += 1,
+            Err(_) => self.failed += 1,
+        }
+        first
     }
 }

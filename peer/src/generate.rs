@@ -2,6 +2,7 @@
 //! every refusal with every place.
 
 pub mod gauges;
+pub mod weights;
 
 use crate::boundary;
 use crate::comparing::Call;

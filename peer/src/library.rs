@@ -1,17 +1,20 @@
 //! What is compared with the model: the C library, or something in its place.
 
 mod gauges;
+pub mod numbers;
+pub mod weights;
 
 use crate::comparing::gauges::GaugeCall;
+use crate::comparing::weights::WeighCall;
 use crate::model::calls::{
-    build_bytes, flat, to_bytes, translate_bytes, BuildAnswer, TranslateAnswer,
+    build_bytes, flat, to_bytes, translate_bytes, BuildAnswer, TranslateAnswer, WeighAnswer,
 };
 use crate::model::gauges::{gauge, GaugeAnswer};
 use crate::model::steps::{run, Of, Until};
 use crate::model::{calls, Problem, M};
 pub use gauges::{Wrong, WRONGS};
 
-/// The calls of the C library: two on byte slices, one on numbers.
+/// The calls of the C library, on bytes and on numbers.
 pub trait Library {
     #[allow(clippy::too_many_arguments)]
     fn build(
@@ -38,6 +41,41 @@ pub trait Library {
         translated: &mut [u8],
     ) -> TranslateAnswer;
 
+    #[allow(clippy::too_many_arguments)]
+    fn build_numbers(
+        &mut self,
+        m: u32,
+        n: u32,
+        matrix: &[i32],
+        moduli: &[i32],
+        h: &mut [i32],
+        v: &mut [i32],
+        w: &mut [i32],
+    ) -> BuildAnswer;
+
+    fn weigh(
+        &mut self,
+        m: u32,
+        n: u32,
+        matrix: &[i32],
+        moduli: &[i32],
+        exponents: &[i32],
+        weights: &mut [i32],
+    ) -> WeighAnswer;
+
+    #[allow(clippy::too_many_arguments)]
+    fn translate_numbers(
+        &mut self,
+        m: u32,
+        n: u32,
+        matrix: &[i32],
+        moduli: &[i32],
+        coefficients: &[i32],
+        exponents: &[i32],
+        kept: &mut [i32],
+        translated: &mut [i32],
+    ) -> TranslateAnswer;
+
     fn gauge(
         &mut self,
         m: u32,
@@ -55,7 +93,7 @@ pub struct CLibrary;
 
 #[cfg(feature = "bench")]
 mod c {
-    use super::{BuildAnswer, GaugeAnswer, TranslateAnswer};
+    use super::{BuildAnswer, GaugeAnswer, TranslateAnswer, WeighAnswer};
 
     #[link(name = "bench", kind = "static")]
     extern "C" {
@@ -89,6 +127,51 @@ mod c {
             kept_len: usize,
             translated: *mut u8,
             translated_len: usize,
+        ) -> TranslateAnswer;
+
+        pub fn glaukemis_build_numbers(
+            m: u32,
+            n: u32,
+            matrix: *const i32,
+            matrix_count: usize,
+            moduli: *const i32,
+            moduli_count: usize,
+            h: *mut i32,
+            h_count: usize,
+            v: *mut i32,
+            v_count: usize,
+            w: *mut i32,
+            w_count: usize,
+        ) -> BuildAnswer;
+
+        pub fn glaukemis_weigh(
+            m: u32,
+            n: u32,
+            matrix: *const i32,
+            matrix_count: usize,
+            moduli: *const i32,
+            moduli_count: usize,
+            exponents: *const i32,
+            exponents_count: usize,
+            weights: *mut i32,
+            weights_count: usize,
+        ) -> WeighAnswer;
+
+        pub fn glaukemis_translate_numbers(
+            m: u32,
+            n: u32,
+            matrix: *const i32,
+            matrix_count: usize,
+            moduli: *const i32,
+            moduli_count: usize,
+            coefficients: *const i32,
+            coefficients_count: usize,
+            exponents: *const i32,
+            exponents_count: usize,
+            kept: *mut i32,
+            kept_count: usize,
+            translated: *mut i32,
+            translated_count: usize,
         ) -> TranslateAnswer;
 
         pub fn glaukemis_gauge(
@@ -151,6 +234,93 @@ impl Library for CLibrary {
         // Sound: as above.
         unsafe {
             c::glaukemis_translate(
+                m,
+                n,
+                matrix.as_ptr(),
+                matrix.len(),
+                moduli.as_ptr(),
+                moduli.len(),
+                coefficients.as_ptr(),
+                coefficients.len(),
+                exponents.as_ptr(),
+                exponents.len(),
+                kept.as_mut_ptr(),
+                kept.len(),
+                translated.as_mut_ptr(),
+                translated.len(),
+            )
+        }
+    }
+
+    fn build_numbers(
+        &mut self,
+        m: u32,
+        n: u32,
+        matrix: &[i32],
+        moduli: &[i32],
+        h: &mut [i32],
+        v: &mut [i32],
+        w: &mut [i32],
+    ) -> BuildAnswer {
+        // Sound: as above.
+        unsafe {
+            c::glaukemis_build_numbers(
+                m,
+                n,
+                matrix.as_ptr(),
+                matrix.len(),
+                moduli.as_ptr(),
+                moduli.len(),
+                h.as_mut_ptr(),
+                h.len(),
+                v.as_mut_ptr(),
+                v.len(),
+                w.as_mut_ptr(),
+                w.len(),
+            )
+        }
+    }
+
+    fn weigh(
+        &mut self,
+        m: u32,
+        n: u32,
+        matrix: &[i32],
+        moduli: &[i32],
+        exponents: &[i32],
+        weights: &mut [i32],
+    ) -> WeighAnswer {
+        // Sound: as above.
+        unsafe {
+            c::glaukemis_weigh(
+                m,
+                n,
+                matrix.as_ptr(),
+                matrix.len(),
+                moduli.as_ptr(),
+                moduli.len(),
+                exponents.as_ptr(),
+                exponents.len(),
+                weights.as_mut_ptr(),
+                weights.len(),
+            )
+        }
+    }
+
+    fn translate_numbers(
+        &mut self,
+        m: u32,
+        n: u32,
+        matrix: &[i32],
+        moduli: &[i32],
+        coefficients: &[i32],
+        exponents: &[i32],
+        kept: &mut [i32],
+        translated: &mut [i32],
+    ) -> TranslateAnswer {
+        // Sound: as above.
+        unsafe {
+            c::glaukemis_translate_numbers(
                 m,
                 n,
                 matrix.as_ptr(),
@@ -236,6 +406,54 @@ impl Library for Model {
         )
     }
 
+    fn build_numbers(
+        &mut self,
+        m: u32,
+        n: u32,
+        matrix: &[i32],
+        moduli: &[i32],
+        h: &mut [i32],
+        v: &mut [i32],
+        w: &mut [i32],
+    ) -> BuildAnswer {
+        calls::build(m, n, matrix, moduli, h, v, w)
+    }
+
+    fn weigh(
+        &mut self,
+        m: u32,
+        n: u32,
+        matrix: &[i32],
+        moduli: &[i32],
+        exponents: &[i32],
+        weights: &mut [i32],
+    ) -> WeighAnswer {
+        calls::weigh(m, n, matrix, moduli, exponents, weights)
+    }
+
+    fn translate_numbers(
+        &mut self,
+        m: u32,
+        n: u32,
+        matrix: &[i32],
+        moduli: &[i32],
+        coefficients: &[i32],
+        exponents: &[i32],
+        kept: &mut [i32],
+        translated: &mut [i32],
+    ) -> TranslateAnswer {
+        calls::translate(
+            m,
+            n,
+            matrix,
+            moduli,
+            coefficients,
+            exponents,
+            kept,
+            translated,
+        )
+    }
+
     fn gauge(
         &mut self,
         m: u32,
@@ -285,7 +503,9 @@ pub enum Damage {
     WithoutT,
     WithoutV,
     WithoutW,
-    /// A wrong answer of gauge.
+    /// A wrong answer of a call over numbers, of weigh, or of gauge.
+    Numbers(numbers::Wrong),
+    Weigh(weights::Wrong),
     Gauge(Wrong),
 }
 
@@ -293,6 +513,8 @@ pub enum Damage {
 pub fn damages() -> Vec<Damage> {
     DAMAGES
         .into_iter()
+        .chain(numbers::WRONGS.map(Damage::Numbers))
+        .chain(weights::WRONGS.map(Damage::Weigh))
         .chain(WRONGS.map(Damage::Gauge))
         .collect()
 }
@@ -500,6 +722,112 @@ impl Library for Damaged {
         }
         if self.now(Damage::BehindTranslated, good && written < translated.len()) {
             translated[written] ^= 1;
+        }
+        answer
+    }
+
+    fn build_numbers(
+        &mut self,
+        m: u32,
+        n: u32,
+        matrix: &[i32],
+        moduli: &[i32],
+        h: &mut [i32],
+        v: &mut [i32],
+        w: &mut [i32],
+    ) -> BuildAnswer {
+        let mut lent = numbers::Build {
+            m,
+            n,
+            inputs: [matrix.to_vec(), moduli.to_vec()],
+            outputs: [h.to_vec(), v.to_vec(), w.to_vec()],
+        };
+        let right = calls::build(m, n, matrix, moduli, h, v, w);
+        let Damage::Numbers(wrong) = self.damage else {
+            return right;
+        };
+        let answer = wrong.build(&mut lent);
+        let outputs = [h, v, w];
+        let differs = answer != right || (0..3).any(|i| *outputs[i] != lent.outputs[i]);
+        if !self.now(self.damage, differs) {
+            return right;
+        }
+        for (output, wrong) in outputs.into_iter().zip(&lent.outputs) {
+            output.copy_from_slice(wrong);
+        }
+        answer
+    }
+
+    fn weigh(
+        &mut self,
+        m: u32,
+        n: u32,
+        matrix: &[i32],
+        moduli: &[i32],
+        exponents: &[i32],
+        weights: &mut [i32],
+    ) -> WeighAnswer {
+        let call = WeighCall {
+            m,
+            n,
+            matrix: matrix.to_vec(),
+            moduli: moduli.to_vec(),
+            exponents: exponents.to_vec(),
+            weights: weights.len(),
+        };
+        let right = weights::right(&call, weights);
+        let given = match self.damage {
+            Damage::Weigh(wrong) => {
+                let given = wrong.answer(&call, weights);
+                match self.now(self.damage, given != right) {
+                    true => given,
+                    false => right,
+                }
+            }
+            _ => right,
+        };
+        weights.copy_from_slice(&given.1);
+        given.0
+    }
+
+    fn translate_numbers(
+        &mut self,
+        m: u32,
+        n: u32,
+        matrix: &[i32],
+        moduli: &[i32],
+        coefficients: &[i32],
+        exponents: &[i32],
+        kept: &mut [i32],
+        translated: &mut [i32],
+    ) -> TranslateAnswer {
+        let mut lent = numbers::Translate {
+            m,
+            n,
+            inputs: [matrix, moduli, coefficients, exponents].map(<[i32]>::to_vec),
+            outputs: [kept.to_vec(), translated.to_vec()],
+        };
+        let right = calls::translate(
+            m,
+            n,
+            matrix,
+            moduli,
+            coefficients,
+            exponents,
+            kept,
+            translated,
+        );
+        let Damage::Numbers(wrong) = self.damage else {
+            return right;
+        };
+        let answer = wrong.translate(&mut lent);
+        let outputs = [kept, translated];
+        let differs = answer != right || (0..2).any(|i| *outputs[i] != lent.outputs[i]);
+        if !self.now(self.damage, differs) {
+            return right;
+        }
+        for (output, wrong) in outputs.into_iter().zip(&lent.outputs) {
+            output.copy_from_slice(wrong);
         }
         answer
     }

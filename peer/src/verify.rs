@@ -126,6 +126,36 @@ pub fn build(problem: &Problem, given: Given) -> Result<(), String> {
     Ok(())
 }
 
+/// Checks the weights of exponents. Without a modulus a weight is the row times the
+/// exponents. With one it is short of that by a multiple of the modulus, nearer to 0
+/// than the modulus, and on the same side of 0.
+pub fn weights(problem: &Problem, exponents: &[i32], weights: &[i32]) -> Result<(), String> {
+    require(weights.len() == problem.m, "a weight for each row")?;
+    let rows = problem.matrix.chunks_exact(problem.n);
+    for ((row, &modulus), &weight) in rows.zip(&problem.moduli).zip(weights) {
+        let pairs = row.iter().zip(exponents);
+        let times: i64 = pairs.map(|(&x, &y)| i64::from(x) * i64::from(y)).sum();
+        let (modulus, weight) = (i64::from(modulus), i64::from(weight));
+        if modulus == 0 {
+            require(weight == times, "a weight is the row times the exponents")?;
+        } else {
+            require(
+                (times - weight).rem_euclid(modulus) == 0,
+                "a weight differs from the product by a multiple of the modulus",
+            )?;
+            require(
+                -modulus < weight && weight < modulus,
+                "a weight is nearer to 0 than the modulus",
+            )?;
+            require(
+                weight == 0 || (weight < 0) == (times < 0),
+                "a weight has the sign of the product",
+            )?;
+        }
+    }
+    Ok(())
+}
+
 /// Checks a translated term by the round trip: the groups to the translated
 /// exponents give the term back (and the same holds of the modulus rows with k).
 pub fn term(

@@ -1,10 +1,12 @@
 //! `compare [COUNT] [SEED]` compares the C library with the model on COUNT
 //! random problems (20,000 if not said), after a fixed set of inputs with every
 //! refusal at every place. Each problem goes through the build and the
-//! translation, and each accepted answer through `verify`.
+//! translation, over bytes and over numbers, and each accepted answer through
+//! `verify`.
 //!
-//! As many random calls of `gauge` follow, but not fewer than 2,000, after fixed
-//! ones; each number that it answers has to come up among the random ones.
+//! As many random calls of `weigh` and of `gauge` follow, but not fewer than 2,000,
+//! after fixed ones; each number that they answer has to come up among the random
+//! ones.
 //!
 //! `compare COUNT SEED trace` prints each input before it is tried, for a library
 //! that breaks off.
@@ -69,6 +71,7 @@ fn library(damage: Option<&str>) -> Box<dyn peer::library::Library> {
 mod run {
     use peer::boundary;
     use peer::comparing::gauges::{GaugeCall, GaugeTally};
+    use peer::comparing::weights::{Due as DueWeights, WeighCall, WeighTally};
     use peer::comparing::{Call, Tally};
     use peer::generate;
     use peer::library::Library;
@@ -78,8 +81,8 @@ mod run {
     /// Mismatches that are printed in full.
     const PRINTED: u64 = 5;
 
-    /// So many random calls of `gauge` come to every number that it answers.
-    const LEAST_GAUGES: u64 = 2_000;
+    /// So many random calls of `weigh` or `gauge` come to every number that it answers.
+    const LEAST: u64 = 2_000;
 
     fn print_kinds(name: &str, kinds: &[u64]) {
         println!("{name}: accepted {}", kinds[0]);
@@ -118,10 +121,57 @@ mod run {
         println!("random problems: {count}");
         print_kinds("build", &tally.build);
         print_kinds("translate", &tally.translate);
+        print_kinds("build_numbers", &tally.build_numbers);
+        print_kinds("translate_numbers", &tally.translate_numbers);
+        let weights = run_weights(library, count, seed, trace);
         let gauges = run_gauges(library, count, seed, trace);
-        let (passed, failed) = (tally.passed + gauges.passed, tally.failed + gauges.failed);
+        let passed = tally.passed + weights.passed + gauges.passed;
+        let failed = tally.failed + weights.failed + gauges.failed;
         println!("{passed} passed, {failed} failed");
         failed == 0
+    }
+
+    /// The comparison of `weigh`; a number that no random call came to has failed.
+    fn run_weights(library: &mut dyn Library, count: u64, seed: u64, trace: bool) -> WeighTally {
+        // Generators of its own: the inputs of the other calls stay as they are.
+        let mut random = Random::new(seed ^ (1 << 62));
+        let mut patterns = Random::new(!seed ^ (1 << 62));
+        let mut one = |tally: &mut WeighTally, call: &WeighCall, written: Option<&DueWeights>| {
+            if trace {
+                println!("{}", call.describe());
+            }
+            let result = tally.compare(library, call, written, &mut patterns);
+            if let Err(error) = result {
+                if tally.failed <= PRINTED {
+                    println!("MISMATCH: {error}\n{}", call.describe());
+                }
+            }
+        };
+        let mut fixed = WeighTally::default();
+        for case in boundary::weights::cases() {
+            one(&mut fixed, &case.call, Some(&case.due));
+        }
+        println!("weigh, written answers: {}", fixed.passed + fixed.failed);
+        let systematic = generate::weights::systematic(&mut random);
+        for call in &systematic {
+            one(&mut fixed, call, None);
+        }
+        println!("weigh, systematic calls: {}", systematic.len());
+        let mut tally = WeighTally::default();
+        let count = count.max(LEAST);
+        for _ in 0..count {
+            let call = generate::weights::call(&mut random);
+            one(&mut tally, &call, None);
+        }
+        println!("weigh, random calls: {count}");
+        print_kinds("weigh", &tally.numbers);
+        for number in tally.never() {
+            println!("NEVER: no random call of weigh was answered {number}");
+            tally.failed += 1;
+        }
+        tally.passed += fixed.passed;
+        tally.failed += fixed.failed;
+        tally
     }
 
     /// The comparison of `gauge`; a number that no random call came to has failed.
@@ -151,7 +201,7 @@ mod run {
         }
         println!("gauge, systematic calls: {}", systematic.len());
         let mut tally = GaugeTally::default();
-        let count = count.max(LEAST_GAUGES);
+        let count = count.max(LEAST);
         for _ in 0..count {
             let call = generate::gauges::call(&mut random);
             one(&mut tally, &call, None);

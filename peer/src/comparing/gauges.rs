@@ -1,6 +1,7 @@
 //! Compares a library with the model on one call of `gauge`, bit for bit, and
 //! each answer from 11 on with the definitions through `verify`.
 
+use super::lists::{Between, NO_ENTRY, NO_MODULUS};
 use super::{compare_build, same, Call};
 use crate::library::Library;
 use crate::model::gauges::gauge;
@@ -8,7 +9,6 @@ use crate::model::lines::Input;
 use crate::model::Problem;
 use crate::random::Random;
 use crate::verify::gauges::{due, Due};
-use std::hint::black_box;
 
 /// One input of the call; the lengths are those of the lists.
 #[derive(Clone, Debug)]
@@ -62,55 +62,7 @@ impl GaugeCall {
     }
 }
 
-/// Numbers before (up to 3 more) and behind a lent list.
-const GUARD: usize = 20;
-
-/// A lent list between numbers that must stay as they are. They are such as would
-/// be refused, so that a library that reads one of them shows it.
-struct Between<T> {
-    all: Vec<T>,
-    around: T,
-    start: usize,
-    length: usize,
-}
-
-impl<T: Copy> Between<T> {
-    /// It begins at any address that is a multiple of the size of a T.
-    fn new(content: &[T], around: T, random: &mut Random) -> Between<T> {
-        let start = GUARD + random.below(4);
-        let mut all = vec![around; start];
-        all.extend_from_slice(content);
-        all.extend([around; GUARD]);
-        Between {
-            all,
-            around,
-            start,
-            length: content.len(),
-        }
-    }
-
-    fn lend(&self) -> &[T] {
-        &self.all[self.start..self.start + self.length]
-    }
-
-    /// All is what it was, as `bits` tells. The call had a shared slice only, by
-    /// which the compiler might take that for granted; black_box forbids it.
-    fn unchanged<B: PartialEq>(&self, content: &[T], bits: impl Fn(T) -> B) -> Result<(), String> {
-        let now = black_box(&self.all);
-        let front = std::iter::repeat_n(&self.around, self.start);
-        let behind = std::iter::repeat_n(&self.around, GUARD);
-        let before = front.chain(content).chain(behind);
-        if now.iter().map(|&x| bits(x)).eq(before.map(|&x| bits(x))) {
-            Ok(())
-        } else {
-            Err("an input lent to gauge was changed".to_string())
-        }
-    }
-}
-
-/// What is around the lists: no entry, no modulus, and no reading.
-const NO_ENTRY: i32 = i32::MIN;
-const NO_MODULUS: i32 = -1;
+/// What is around the readings: no reading.
 const NO_READING: f64 = f64::from_bits(0x7ff4_0000_0000_dead);
 
 /// The answer is what it has to be.
@@ -141,9 +93,9 @@ fn compare(
         readings.lend(),
         call.group,
     );
-    matrix.unchanged(&call.matrix, |x| x)?;
-    moduli.unchanged(&call.moduli, |x| x)?;
-    readings.unchanged(&call.readings, f64::to_bits)?;
+    matrix.unchanged("gauge", &call.matrix, |x| x)?;
+    moduli.unchanged("gauge", &call.moduli, |x| x)?;
+    readings.unchanged("gauge", &call.readings, f64::to_bits)?;
     let right = gauge(
         call.m,
         call.n,
@@ -218,28 +170,6 @@ impl GaugeTally {
 #[cfg(test)]
 mod tests {
     use super::*;
-
-    /// A change of the list or around it is seen, also one that keeps the value.
-    #[test]
-    fn changes_are_seen() {
-        let mut random = Random::new(1);
-        let content = [0.0, 1.0, f64::NAN];
-        let lent = Between::new(&content, NO_READING, &mut random);
-        assert_eq!(lent.lend().len(), 3);
-        let unchanged = |lent: &Between<f64>| lent.unchanged(&content, f64::to_bits);
-        unchanged(&lent).expect("nothing was done");
-        for place in 0..lent.all.len() {
-            for bit in [0, 51, 63] {
-                let mut other = Between {
-                    all: lent.all.clone(),
-                    ..lent
-                };
-                let bits = other.all[place].to_bits() ^ (1 << bit);
-                other.all[place] = f64::from_bits(bits);
-                unchanged(&other).expect_err("a bit was changed");
-            }
-        }
-    }
 
     /// A tally tells what it never met.
     #[test]

@@ -36,6 +36,7 @@ pub struct TranslateAnswer {
 }
 
 /// What the weights of a monomial return; number 0 is success.
+#[repr(C)]
 #[derive(Clone, Copy, Debug, PartialEq, Eq)]
 pub struct WeighAnswer {
     pub number: u32,
