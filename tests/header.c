@@ -156,7 +156,7 @@ int main(void)
     IS(gauge(1, 2, 2, 0), GLAUKEMIS_BAD_VALUE, 0);
     readings[0] = 1.0;
 
-    /* Known problem 10 of the rules: 1000 on the diagonal of four rows, and -1 right of it. */
+    /* R10.10: 1000 on the diagonal of four rows, and -1 right of it. */
     for (int i = 0; i < 4; i++)
         for (int j = 0; j < 5; j++)
             matrix[i * 5 + j] = j == i ? 1000 : j == i + 1 ? -1 : 0;
