@@ -47,7 +47,7 @@ static void power(const char *name, long long exponent)
 int main(void)
 {
     int32_t h[GLAUKEMIS_H_COUNT], v[GLAUKEMIS_V_COUNT], w[GLAUKEMIS_W_COUNT];
-    int32_t kept[GLAUKEMIS_KEPT_COUNT], translated[GLAUKEMIS_TRANSLATED_COUNT], weights[GLAUKEMIS_WEIGHTS_COUNT];
+    int32_t kept[GLAUKEMIS_COEFFICIENTS_COUNT], translated[GLAUKEMIS_EXPONENTS_COUNT], weights[GLAUKEMIS_WEIGHTS_COUNT];
 
     /* The groups. */
     glaukemis_build_answer b = glaukemis_build_numbers(ROWS, QUANTITIES, matrix, ROWS * QUANTITIES, moduli, ROWS,
@@ -68,7 +68,7 @@ int main(void)
 
     /* The formula in the groups; and put back, each group by its exponents. */
     glaukemis_translate_answer t = glaukemis_translate_numbers(ROWS, QUANTITIES, matrix, ROWS * QUANTITIES, moduli, ROWS,
-        coefficients, TERMS, exponents, TERMS * QUANTITIES, kept, GLAUKEMIS_KEPT_COUNT, translated, GLAUKEMIS_TRANSLATED_COUNT);
+        coefficients, TERMS, exponents, TERMS * QUANTITIES, kept, GLAUKEMIS_COEFFICIENTS_COUNT, translated, GLAUKEMIS_EXPONENTS_COUNT);
     if (t.number != GLAUKEMIS_TAKEN)
         return refused("glaukemis_translate_numbers", t.number, t.place);
     printf("\nthe formula in the groups\n");
@@ -94,7 +94,7 @@ int main(void)
     /* A term that cannot be written so, and what it weighs. */
     printf("\n%s^1 %s^-1 %s^-1 %s^1 alone", quantity[1], quantity[2], quantity[3], quantity[5]);
     t = glaukemis_translate_numbers(ROWS, QUANTITIES, matrix, ROWS * QUANTITIES, moduli, ROWS,
-        coefficients, 1, odd, QUANTITIES, kept, GLAUKEMIS_KEPT_COUNT, translated, GLAUKEMIS_TRANSLATED_COUNT);
+        coefficients, 1, odd, QUANTITIES, kept, GLAUKEMIS_COEFFICIENTS_COUNT, translated, GLAUKEMIS_EXPONENTS_COUNT);
     if (t.number == GLAUKEMIS_NOT_FREE) {
         glaukemis_weigh_answer x = glaukemis_weigh(ROWS, QUANTITIES, matrix, ROWS * QUANTITIES, moduli, ROWS,
             odd, QUANTITIES, weights, GLAUKEMIS_WEIGHTS_COUNT);

@@ -59,13 +59,13 @@ extern "C" {
 #define GLAUKEMIS_V_COUNT 576
 #define GLAUKEMIS_W_COUNT 576
 #define GLAUKEMIS_WEIGHTS_COUNT 8
-#define GLAUKEMIS_KEPT_COUNT 64
-#define GLAUKEMIS_TRANSLATED_COUNT 1024
+#define GLAUKEMIS_COEFFICIENTS_COUNT 64
+#define GLAUKEMIS_EXPONENTS_COUNT 1024
 #define GLAUKEMIS_H_BYTES (4 * GLAUKEMIS_H_COUNT)
 #define GLAUKEMIS_V_BYTES (4 * GLAUKEMIS_V_COUNT)
 #define GLAUKEMIS_W_BYTES (4 * GLAUKEMIS_W_COUNT)
-#define GLAUKEMIS_KEPT_BYTES (4 * GLAUKEMIS_KEPT_COUNT)
-#define GLAUKEMIS_TRANSLATED_BYTES (4 * GLAUKEMIS_TRANSLATED_COUNT)
+#define GLAUKEMIS_COEFFICIENTS_BYTES (4 * GLAUKEMIS_COEFFICIENTS_COUNT)
+#define GLAUKEMIS_EXPONENTS_BYTES (4 * GLAUKEMIS_EXPONENTS_COUNT)
 
 /*
  * What the number of an answer says. The checks go in the order of this list, so 24 before 12, and the first to find a fault decides. Each
@@ -175,8 +175,8 @@ glaukemis_weigh_answer glaukemis_weigh(
  *   moduli        m numbers
  *   coefficients  t numbers, which tell how many terms there are
  *   exponents     t*n numbers: the exponent of each quantity, term after term
- *   kept          at least GLAUKEMIS_KEPT_COUNT numbers
- *   translated    at least GLAUKEMIS_TRANSLATED_COUNT numbers
+ *   kept          at least GLAUKEMIS_COEFFICIENTS_COUNT numbers
+ *   translated    at least GLAUKEMIS_EXPONENTS_COUNT numbers
  * Back come
  *   kept          in its first t numbers the coefficients as they are
  *   translated    in its first t*d numbers the exponent of each group, term after term

@@ -36,11 +36,11 @@ static uint8_t *stack; /* the painted one, from its lowest byte */
 /* What the calls are lent, numbers and bytes, and what they answered. The formula is all 0, and so free of dimension. */
 static const struct problem *given;
 static int32_t h[GLAUKEMIS_H_COUNT], v[GLAUKEMIS_V_COUNT], w[GLAUKEMIS_W_COUNT], weights[GLAUKEMIS_WEIGHTS_COUNT];
-static int32_t coefficients[TERMS], exponents[TERMS * QUANTITIES], kept[GLAUKEMIS_KEPT_COUNT], translated[GLAUKEMIS_TRANSLATED_COUNT];
+static int32_t coefficients[TERMS], exponents[TERMS * QUANTITIES], kept[GLAUKEMIS_COEFFICIENTS_COUNT], translated[GLAUKEMIS_EXPONENTS_COUNT];
 static uint8_t matrix_bytes[4 * ROWS * QUANTITIES], moduli_bytes[4 * ROWS];
 static uint8_t h_bytes[GLAUKEMIS_H_BYTES], v_bytes[GLAUKEMIS_V_BYTES], w_bytes[GLAUKEMIS_W_BYTES];
 static uint8_t coefficients_bytes[4 * TERMS], exponents_bytes[4 * TERMS * QUANTITIES];
-static uint8_t kept_bytes[GLAUKEMIS_KEPT_BYTES], translated_bytes[GLAUKEMIS_TRANSLATED_BYTES];
+static uint8_t kept_bytes[GLAUKEMIS_COEFFICIENTS_BYTES], translated_bytes[GLAUKEMIS_EXPONENTS_BYTES];
 static double readings[QUANTITIES];
 static glaukemis_build_answer built;
 static glaukemis_weigh_answer weighed;
@@ -108,7 +108,7 @@ static void do_weigh(void)
 static void do_translate_numbers(void)
 {
     changed = translate_numbers(given->m, given->n, given->matrix, given->m * given->n, given->moduli, given->m, coefficients, TERMS,
-        exponents, TERMS * given->n, kept, GLAUKEMIS_KEPT_COUNT, translated, GLAUKEMIS_TRANSLATED_COUNT);
+        exponents, TERMS * given->n, kept, GLAUKEMIS_COEFFICIENTS_COUNT, translated, GLAUKEMIS_EXPONENTS_COUNT);
 }
 static void do_build(void)
 {

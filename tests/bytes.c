@@ -13,9 +13,9 @@ static const uint8_t coefficients_bytes[8] = {0, 0, 0, 7, 0xff, 0xff, 0xff, 0xfe
 static const uint8_t exponents_bytes[24] = {0, 0, 0, 2, 0, 0, 0, 2, 0, 0, 0, 1, 0xff, 0xff, 0xff, 0xfd};
 
 static int32_t h[GLAUKEMIS_H_COUNT], v[GLAUKEMIS_V_COUNT], w[GLAUKEMIS_W_COUNT];
-static int32_t kept[GLAUKEMIS_KEPT_COUNT], translated[GLAUKEMIS_TRANSLATED_COUNT];
+static int32_t kept[GLAUKEMIS_COEFFICIENTS_COUNT], translated[GLAUKEMIS_EXPONENTS_COUNT];
 static uint8_t h_bytes[GLAUKEMIS_H_BYTES], v_bytes[GLAUKEMIS_V_BYTES], w_bytes[GLAUKEMIS_W_BYTES];
-static uint8_t kept_bytes[GLAUKEMIS_KEPT_BYTES], translated_bytes[GLAUKEMIS_TRANSLATED_BYTES];
+static uint8_t kept_bytes[GLAUKEMIS_COEFFICIENTS_BYTES], translated_bytes[GLAUKEMIS_EXPONENTS_BYTES];
 
 static int wrong;
 
@@ -78,11 +78,11 @@ int main(void)
 
     glaukemis_translate_answer t = translate(8, sizeof kept_bytes);
     glaukemis_translate_answer u = glaukemis_translate_numbers(1, 3, matrix, 3, moduli, 1, coefficients, 2, exponents, 6, kept,
-        GLAUKEMIS_KEPT_COUNT, translated, GLAUKEMIS_TRANSLATED_COUNT);
+        GLAUKEMIS_COEFFICIENTS_COUNT, translated, GLAUKEMIS_EXPONENTS_COUNT);
     hold("the translation is refused", t.number == GLAUKEMIS_TAKEN && t.place == 0 && t.d == 3);
     hold("the translations differ", u.number == t.number && u.place == t.place && u.d == t.d);
-    hold("the coefficients differ", same(kept_bytes, kept, GLAUKEMIS_KEPT_COUNT));
-    hold("the exponents differ", same(translated_bytes, translated, GLAUKEMIS_TRANSLATED_COUNT));
+    hold("the coefficients differ", same(kept_bytes, kept, GLAUKEMIS_COEFFICIENTS_COUNT));
+    hold("the exponents differ", same(translated_bytes, translated, GLAUKEMIS_EXPONENTS_COUNT));
     hold("the first term is wrong", kept[0] == 7 && translated[0] == 0 && translated[1] == 2 && translated[2] == 1);
 
     paint(0xa5);

@@ -37,9 +37,9 @@ static double readings[QUANTITIES];
 static uint8_t zeros[4 * TERMS * QUANTITIES];
 
 static int32_t h[GLAUKEMIS_H_COUNT], v[GLAUKEMIS_V_COUNT], w[GLAUKEMIS_W_COUNT], weights[GLAUKEMIS_WEIGHTS_COUNT];
-static int32_t kept[GLAUKEMIS_KEPT_COUNT], translated[GLAUKEMIS_TRANSLATED_COUNT];
+static int32_t kept[GLAUKEMIS_COEFFICIENTS_COUNT], translated[GLAUKEMIS_EXPONENTS_COUNT];
 static uint8_t h_bytes[GLAUKEMIS_H_BYTES], v_bytes[GLAUKEMIS_V_BYTES], w_bytes[GLAUKEMIS_W_BYTES];
-static uint8_t kept_bytes[GLAUKEMIS_KEPT_BYTES], translated_bytes[GLAUKEMIS_TRANSLATED_BYTES];
+static uint8_t kept_bytes[GLAUKEMIS_COEFFICIENTS_BYTES], translated_bytes[GLAUKEMIS_EXPONENTS_BYTES];
 
 /* The calls, with what is less than the least size of each output. */
 static glaukemis_weigh_answer weigh(uint32_t m, uint32_t n, size_t less)
@@ -54,7 +54,7 @@ static glaukemis_build_answer build(uint32_t m, uint32_t n, size_t less_h, size_
 static glaukemis_translate_answer translate(uint32_t m, uint32_t n, size_t terms, size_t less_kept, size_t less_translated)
 {
     return glaukemis_translate_numbers(m, n, matrix, m * n, moduli, m, coefficients, terms, exponents, terms * n, kept,
-        GLAUKEMIS_KEPT_COUNT - less_kept, translated, GLAUKEMIS_TRANSLATED_COUNT - less_translated);
+        GLAUKEMIS_COEFFICIENTS_COUNT - less_kept, translated, GLAUKEMIS_EXPONENTS_COUNT - less_translated);
 }
 static glaukemis_build_answer build_bytes(size_t less_h, size_t less_v, size_t less_w)
 {
