@@ -41,17 +41,7 @@ done
 
 # The archive of the proved calls.
 archive=target/staticlib/libbench.a
-if [ ! -f $archive ]; then
-    why="$archive is missing"
-elif [ -n "$(find crates -name '*.rt' -newer $archive -print -quit)" ]; then
-    why="$archive is older than the sources"
-else
-    why=
-fi
-if [ -n "$why" ]; then
-    command -v rt >/dev/null || stop "$why, and there is no rt to build it with; on a machine with the Rattle toolchain: rt staticlib bench"
-    rt staticlib bench || stop "$why, and rt staticlib bench failed"
-fi
+bash archive.sh || stop "there is no archive to install"
 
 # What the header says: its version, and the calls.
 header=include/glaukemis.h

@@ -127,7 +127,7 @@ try "where its pkg-config file says it is" grep -qx "prefix=$folder/here/there" 
 mkdir -p "$folder/tree/include" "$folder/tree/crates" "$folder/tree/target/staticlib" "$folder/bin"
 tree=$folder/tree
 archive=target/staticlib/libbench.a
-cp install.sh "$tree/" && cp include/glaukemis.h "$tree/include/" && cp $archive "$tree/$archive"
+cp install.sh archive.sh "$tree/" && cp include/glaukemis.h "$tree/include/" && cp $archive "$tree/$archive"
 for tool in bash gcc ld as objcopy ar nm install dirname mktemp find sed grep tr sort awk diff cat rm ln; do
     ln -s "$(command -v $tool)" "$folder/bin/$tool"
 done

@@ -35,7 +35,7 @@ retold() {
 # The part of a transcript that belongs to its command of that number.
 part() { awk -v number="$2" '/^\$ / { count++ } count == number' "$1"; }
 
-example() { "$dir/bin/parlour" examples/pulsator.parlour; }
+example() { bash parlour/run.sh examples/pulsator.parlour; }
 
 if [ "${1:-}" = store ]; then
     example >examples/pulsator.parlour.out

@@ -1,0 +1,11 @@
+#!/usr/bin/env bash
+# Runs the text program, and builds what is missing first:
+#
+#     bash parlour/run.sh FILE
+#
+# or any other command of parlour (docs/PARLOUR.md).
+set -euo pipefail
+root=$(cd "$(dirname "$0")/.." && pwd)
+bash "$root/archive.sh"
+cargo build --release --offline --quiet --manifest-path "$root/parlour/Cargo.toml"
+exec "$root/parlour/target/release/parlour" "$@"
