@@ -1,7 +1,8 @@
--- `Work::stage3` is the definition's: what is left to do is what it was.
+-- `Work::stage3` is the definition's: at each turn, what is left to do after the columns done is what the whole was at the start. A turn passes column c over,
+-- or brings the first r columns into range at its pivot.
 use mathlib.Core.Path.{_≡_}
-use mathlib.Core.Bool.{true}
-use Prim.Native.Nat.{_-_, _<_}
+use mathlib.Core.Bool.{true, false}
+use Prim.Native.Nat.{ℕ, _-_, _<_}
 use native.Mathlib.Nat.{mul-le-mul}
 use native.Mathlib.Omega.{arith}
 use borrow.Author.Needs.{needs}
@@ -20,6 +21,13 @@ Inv-loop m n r self₀ c₀ self c = Third m n r c self₀ self
 abbrev μ-loop : tie.MeasureT-loop
 μ-loop m n r self₀ c₀ self c = c
 
+-- ---- the points of a turn: its beginning, and where the pivot's row is there
+abbrev turn : tie.After-pivot-row Inv-loop μ-loop → tie.In-loop Inv-loop μ-loop
+turn c = let self = c .before .before .before in self .before
+
+abbrev there : tie.After-unreduced Inv-loop μ-loop → tie.Then1 Inv-loop μ-loop
+there c = let self = c .before .before .before in self .before
+
 loop-holds : tie.Need-loop-holds Inv-loop μ-loop
 loop-holds c = third-start (c .pre .0) (c .pre .1)
 
@@ -32,76 +40,78 @@ pivot-row-requires c κs =
     let e : length (l .self .v) ≡ 576 = search needs in
     omega (arith, i .loop-test .taken, l .inv .high, mul-le-mul (l .inv .fine .cols) (l .inv .fine .cols))
 
--- the pivot's row, and what is known where it is there
-row : (c : tie.After-pivot-row Inv-loop μ-loop) → let l = c .before .before .before .before .before in let a = l .before .args in
-    c .pivot-row .result < a .cols → RowOfTable true (a .m) (a .cols) (c .pivot-row .result) (l .loop .self) (l .loop .self .v)
-row c h =
-    let l = c .before .before .before .before .before .loop in
-    let e : length (l .self .v) ≡ 576 = search needs in
-    row-of-v (l .inv .fine) h e
+-- ---- what is known of the pivot's row, where it is there
+module _ (c : tie.Then1 Inv-loop μ-loop) where
+  abbrev head : tie.At-loop Inv-loop μ-loop
+  head = turn (c .before) .before
 
-pivot : (c : tie.After-pivot-row Inv-loop μ-loop) → let l = c .before .before .before .before .before in let a = l .before .args in
-    c .pivot-row .result < a .cols → Pivot true (a .m) (a .cols) (c .pivot-row .result) (l .loop .c - 1) (l .loop .self) (a .cols)
-pivot c h = let i = c .before .before .before .before in third-pivot (i .before .before .pre .1) (i .before .loop .inv) (i .loop-test .taken) (c .pivot-row .ensures) h
+  abbrev entry : tie.Start Inv-loop μ-loop
+  entry = head .before
+
+  abbrev k : ℕ
+  k = c .before .pivot-row .result
+
+  more : entry .args .r < head .loop .c
+  more = turn (c .before) .loop-test .taken
+
+  row : RowOfTable true (entry .args .m) (entry .args .cols) k (head .loop .self) (head .loop .self .v)
+  row = let e : length (head .loop .self .v) ≡ 576 = search needs in row-of-v (head .loop .inv .fine) (c .if1 .taken) e
+
+  pivot : Pivot true (entry .args .m) (entry .args .cols) k (head .loop .c - 1) (head .loop .self) (entry .args .cols)
+  pivot = third-pivot (entry .pre .1) (head .loop .inv) more (c .before .pivot-row .ensures) (c .if1 .taken)
+
+  -- columns `from` to r have come into range at it
+  abbrev Reduced-from : ℕ → Work → Type 0
+  Reduced-from from w = AllReduced true (entry .args .m) (entry .args .cols) k (head .loop .c - 1) from (entry .args .r) (head .loop .self) w
+
+  next : {w : Work} → Reduced-from 0 w → w .over ≡ false → Third (entry .args .m) (entry .args .cols) (entry .args .r) (head .loop .c - 1) (entry .args .t1) w
+  next = third-next (entry .pre .1) (head .loop .inv) more (c .before .pivot-row .ensures) (c .if1 .taken)
 
 mul-unreduced : tie.Need-mul-unreduced Inv-loop μ-loop
-mul-unreduced c = let t = c .before .before .before in let l = t .before .before .before .before .before .before .loop in omega (arith, row-short true (l .inv .fine) (t .if1 .taken))
+mul-unreduced c = let t = c .before .before .before in omega (arith, row-short true (head t .loop .inv .fine) (t .if1 .taken))
 
 unreduced-requires : tie.Need-unreduced-requires Inv-loop μ-loop
-unreduced-requires c κs =
-    let t = c .before .before .before in let p = t .before in let l = p .before .before .before .before .before in
-    pivot-divisors (row p (t .if1 .taken)) (l .loop .inv .fine) (pivot p (t .if1 .taken)) (l .before .pre .1 .r-in)
+unreduced-requires c κs = let t = c .before .before .before in pivot-divisors (row t) (head t .loop .inv .fine) (pivot t) (entry t .pre .1 .r-in)
 
 reduce-all-requires : tie.Need-reduce-all-requires Inv-loop μ-loop
 reduce-all-requires c κs =
-    let t = c .before .before .before .before .before in let p = t .before in let i = p .before .before .before .before in let l = i .before in
-    let d = third-apart (l .before .pre .1) (l .loop .inv) (i .loop-test .taken) in (
-      l .loop .inv .fine,
-      (pivot p (t .if1 .taken), record { upto = d .upto; apart = λ k x y. d .apart k (omega arith) y }),
-    )
+    let t = there (c .before) in let d = third-apart (entry t .pre .1) (head t .loop .inv) (more t) in
+    (head t .loop .inv .fine, (pivot t, record { upto = d .upto; apart = λ k x y. d .apart k (omega arith) y }))
 
--- column c, once the first r columns are in range at it
-all : (c : tie.After-unreduced Inv-loop μ-loop)
-    → let l = c .before .before .before .before .before .before .before .before .before .before in let a = l .before .args in let k = c .before .before .before .before .before .pivot-row .result in (w : Work)
-    → AllReduced true (a .m) (a .cols) k (l .loop .c - 1) (c .unreduced .result) (a .r) (l .loop .self) w
-    → AllReduced true (a .m) (a .cols) k (l .loop .c - 1) 0 (a .r) (l .loop .self) w
-all c w =
-    let t = c .before .before .before .before in let p = t .before in let l = p .before .before .before .before .before in
-    reduced-rest (row p (t .if1 .taken)) (l .loop .inv .fine) (pivot p (t .if1 .taken)) (l .before .pre .1 .r-in) (c .unreduced .ensures) (omega arith)
+-- the columns below the one found are in range already
+all : (c : tie.After-unreduced Inv-loop μ-loop) {w : Work} → Reduced-from (there c) (c .unreduced .result) w → Reduced-from (there c) 0 w
+all c =
+    let t = there c in
+    reduced-rest (row t) (head t .loop .inv .fine) (pivot t) (entry t .pre .1 .r-in) (c .unreduced .ensures) (omega arith)
 
 returns : tie.Need-returns Inv-loop μ-loop
 returns c =
-    let u = c .before .before .before in let t = u .before .before .before .before in let p = t .before in let i = p .before .before .before .before in let l = i .before in
-    third-over (l .before .pre .1) (l .loop .inv) (i .loop-test .taken) (p .pivot-row .ensures) (t .if1 .taken)
-    (all u (c .before .reduce-all .result) (c .before .reduce-all .ensures)) (c .if3 .taken)
+    let u = c .before .before .before in let t = there u in
+    third-over (entry t .pre .1) (head t .loop .inv) (more t) (t .before .pivot-row .ensures) (t .if1 .taken)
+    (all u (c .before .reduce-all .ensures)) (c .if3 .taken)
 
 loop-less : tie.Need-loop-less Inv-loop μ-loop
-loop-less c = let i = c .before .before .before .before .before .before .before .before .before .before .before .before in omega (arith, i .loop-test .taken)
+loop-less c = omega (arith, more (there (c .before .before .before)))
 
 loop-again : tie.Need-loop-again Inv-loop μ-loop
-loop-again c =
-    let u = c .before .before .before in let t = u .before .before .before .before in let p = t .before in let i = p .before .before .before .before in let l = i .before in
-    third-next (l .before .pre .1) (l .loop .inv) (i .loop-test .taken) (p .pivot-row .ensures) (t .if1 .taken)
-    (all u (c .before .reduce-all .result) (c .before .reduce-all .ensures)) (c .if3 .left)
+loop-again c = let u = c .before .before .before in next (there u) (all u (c .before .reduce-all .ensures)) (c .if3 .left)
 
 loop-less-2 : tie.Need-loop-less-2 Inv-loop μ-loop
-loop-less-2 c = let i = c .before .before .before .before .before .before .before .before .before .before in omega (arith, i .loop-test .taken)
+loop-less-2 c = omega (arith, more (there (c .before)))
 
 loop-again-2 : tie.Need-loop-again-2 Inv-loop μ-loop
 loop-again-2 c =
-    let u = c .before in let t = u .before .before .before .before in let p = t .before in let i = p .before .before .before .before in let l = i .before in
-    third-next (l .before .pre .1) (l .loop .inv) (i .loop-test .taken) (p .pivot-row .ensures) (t .if1 .taken)
-    (reduced-none (row p (t .if1 .taken)) (l .loop .inv .fine) (pivot p (t .if1 .taken)) (l .before .pre .1 .r-in) (u .unreduced .ensures) (omega arith)
-    (c .if2 .left))
-    (l .loop .inv .fine .clear)
+    let u = c .before in let t = there u in
+    next t (reduced-none (row t) (head t .loop .inv .fine) (pivot t) (entry t .pre .1 .r-in) (u .unreduced .ensures) (omega arith) (c .if2 .left))
+    (head t .loop .inv .fine .clear)
 
 loop-less-3 : tie.Need-loop-less-3 Inv-loop μ-loop
-loop-less-3 c = let i = c .before .before .before .before .before in omega (arith, i .loop-test .taken)
+loop-less-3 c = omega (arith, turn (c .before) .loop-test .taken)
 
 loop-again-3 : tie.Need-loop-again-3 Inv-loop μ-loop
 loop-again-3 c =
-    let p = c .before in let i = p .before .before .before .before in
-    third-pass (i .before .before .pre .1) (i .before .loop .inv) (i .loop-test .taken) (p .pivot-row .ensures) (c .if1 .left)
+    let i = turn (c .before) in
+    third-pass (i .before .before .pre .1) (i .before .loop .inv) (i .loop-test .taken) (c .before .pivot-row .ensures) (c .if1 .left)
 
 returns-2 : tie.Need-returns-2 Inv-loop μ-loop
 returns-2 c = third-end (c .before .before .pre .1) (c .before .loop .inv) (c .loop-test .left)
