@@ -1,5 +1,6 @@
--- `Work::reorder` meets its contract: the three loops together are the definition's reordering.
+-- `Work::reorder` meets its contract: each of the three loops stays within its list, and together they are the definition's reordering.
 use mathlib.Core.Path.{refl}
+use Prim.Native.Nat.{_*_, _≤_}
 use native.Mathlib.Nat.{mul-le-mul, le-refl}
 use native.Mathlib.Omega.{arith}
 use borrow.Author.Needs.{needs}
@@ -9,46 +10,59 @@ use Rattle.scaling.proofs.Steps.{reorder-same}
 use Rattle.scaling.proofs.work.Work.reorder.Statement.{statement}
 use Rattle.scaling.proofs.work.Work.reorder.Tie as tie
 
-long : (s : tie.Start) → Long (s .args .t1)
-long s = record { t = search needs; v = search needs; w = search needs }
+module _ (s : tie.Start) where
+  long : Long (s .args .t1)
+  long = record { t = search needs; v = search needs; w = search needs }
+
+  -- the rows of W up to a are some of all
+  part : s .args .a * s .args .cols ≤ s .args .cols * s .args .cols
+  part = mul-le-mul {n₁ = s .args .a} {m₁ = s .args .cols} (s .pre .1 .1) (le-refl (s .args .cols))
+
+  all : s .args .cols * s .args .cols ≤ 576
+  all = square (s .args .m) (s .args .cols) (s .args .t1) (s .pre .0)
+
+-- the start, from where the old lists are kept, T is done, and V is
+abbrev entry : tie.After-w → tie.Start
+entry c = c .before .before .before
+
+abbrev entry-t : tie.After-rotate-t → tie.Start
+entry-t c = entry (c .before .before .before)
+
+abbrev entry-v : tie.After-rotate-v → tie.Start
+entry-v c = entry-t (c .before .before .before)
 
 rotate-t-requires : tie.Need-rotate-t-requires
 rotate-t-requires c κs =
-    let s = c .before .before .before .before .before in let p = s .pre .1 in
+    let s = entry (c .before .before) in let p = s .pre .1 in
     (p .0, p .1, t-room (s .pre .0) (long s), t-room (s .pre .0) (long s))
 
 rotate-v-requires : tie.Need-rotate-v-requires
 rotate-v-requires c κs =
-    let s = c .before .before .before .before .before .before .before .before in let p = s .pre .1 in
+    let s = entry-t (c .before .before) in let p = s .pre .1 in
     (p .0, p .1, omega (arith, v-room (s .pre .0) (long s)), omega (arith, v-room (s .pre .0) (long s)))
 
 mul-rotate-v : tie.Need-mul-rotate-v
-mul-rotate-v c =
-    let s = c .before .before .before .before .before .before .before .before .before .before .before in
-    omega (arith, square (s .args .m) (s .args .cols) (s .args .t1) (s .pre .0))
+mul-rotate-v c = omega (arith, all (entry-v (c .before .before)))
 
 mul-rotate-v-2 : tie.Need-mul-rotate-v-2
-mul-rotate-v-2 c =
-    let s = c .before .before .before .before .before .before .before .before .before .before .before in
-    omega (arith, square (s .args .m) (s .args .cols) (s .args .t1) (s .pre .0), mul-le-mul {n₁ = s .args .a} {m₁ = s .args .cols} (s .pre .1 .1) (le-refl (s .args .cols)))
+mul-rotate-v-2 c = let s = entry-v (c .before .before) in omega (arith, all s, part s)
 
 rotate-v-requires-2 : tie.Need-rotate-v-requires-2
 rotate-v-requires-2 c κs =
-    let s = c .before .before .before .before .before .before .before .before .before .before .before in
-    let p = s .pre .1 in (
+    let s = entry-v (c .before .before) in let p = s .pre .1 in (
       omega (arith, cell {j = 0} {n = s .args .cols} {k = 0} {m = s .args .cols} (p .0) (p .0)),
-      omega (arith, mul-le-mul {n₁ = s .args .a} {m₁ = s .args .cols} (p .1) (le-refl (s .args .cols))),
+      omega (arith, part s),
       omega (arith, w-room (s .pre .0) (long s)),
       omega (arith, w-room (s .pre .0) (long s)),
     )
 
 returns : tie.Need-returns
 returns c =
-    let s = c .before .before .before .before .before .before .before .before .before .before .before .before in
+    let v = c .before .before .before in let s = entry-v v in
     reorder-same _ (s .pre .0) (long s) (s .args .a) (s .pre .1 .0) (s .pre .1 .1)
     (record {
-      t = c .before .before .before .before .before .before .rotate-t .ensures;
-      v = c .before .before .before .rotate-v .ensures;
+      t = v .before .before .before .rotate-t .ensures;
+      v = v .rotate-v .ensures;
       w = c .rotate-v2 .ensures;
       steps = refl;
       over = refl;
