@@ -1,5 +1,5 @@
--- `Work::eliminate` is the definition's: one repetition, and then what it says of the state after it. The measure is the sum of the absolute values in
--- the active columns.
+-- `Work::eliminate` is the definition's: one repetition, and then what it says of the state after it. It ends because each repetition makes the sum of the
+-- absolute values in the active columns smaller.
 use mathlib.Core.Path.{sym, _∙_}
 use Prim.Native.Nat.{ℕ, _<_}
 use native.Mathlib.Omega.{arith}
@@ -62,21 +62,24 @@ module _ (t : ℕ) where
   long : (c : lts.After-add (claims t) (at t) eliminate.Post) → Long (c .add .result)
   long c = record { t = search needs; v = search needs; w = search needs }
 
+  -- where the addition is done, from the table read after it
+  abbrev added : lts.After-table (claims t) (at t) eliminate.Post → lts.After-add (claims t) (at t) eliminate.Post
+  added c = let work = c .before .before .before in work .before
+
   -- the row, after the addition
   table-row : (c : lts.After-table (claims t) (at t) eliminate.Post)
-      → let d = c .before .before .before .before in let a = d .before .args in
-      RowOfTable (a .stage2) (a .m) (a .cols) (a .row) (d .add .result) (now (c .table .result))
+      → let d = added c in let a = d .before .args in RowOfTable (a .stage2) (a .m) (a .cols) (a .row) (d .add .result) (now (c .table .result))
   table-row c =
-      let d = c .before .before .before .before in let s = d .before in
+      let d = added c in let s = d .before in
       row-of-table (s .args .stage2) (s .pre .1 .0) (s .pre .1 .1 .row-in) (long d) (c .table .ensures)
 
   goes : (c : lts.Else1 (claims t) (at t) eliminate.Post)
-      → let o = c .before .before in let w = o .before .before in let d = w .before .before .before .before in let a = d .before .args in
+      → let o = c .before .before in let w = o .before .before in let d = added w in let a = d .before .args in
       GoesOn (a .stage2) (a .m) (a .cols) (a .row) (a .lo) (a .a) (a .self) (d .add .result)
       (now (w .table .result)) (o .before .next-pivot .result) (o .other .result)
   goes c =
-      let o = c .before .before in let w = o .before .before in let d = w .before .before .before .before in
-      goes-on (d .before .pre .1 .0) (ready (d .before)) (d .add .ensures) (table-row w) (o .other .ensures) (o .before .next-pivot .ensures)
+      let o = c .before .before in let w = o .before .before in let d = added w in let s = d .before in
+      goes-on (s .pre .1 .0) (ready s) (d .add .ensures) (table-row w) (o .other .ensures) (o .before .next-pivot .ensures)
       (sym (c .before .either .ensures) ∙ c .if1 .left)
 
   mul-base : lts.Need-mul-base (claims t) (at t) eliminate.Post
@@ -90,12 +93,12 @@ module _ (t : ℕ) where
 
   next-pivot-requires : lts.Need-next-pivot-requires (claims t) (at t) eliminate.Post
   next-pivot-requires c κs =
-      let s = c .before .before .before .before .before in
+      let s = added c .before in
       omega (arith, table-row c .whole, two-columns (s .pre .1 .0) (s .pre .1 .1) .j-in)
 
   other-requires : lts.Need-other-requires (claims t) (at t) eliminate.Post
   other-requires c κs =
-      let s = c .before .before .before .before .before .before in
+      let s = added (c .before) .before in
       omega (arith, table-row (c .before) .whole, s .pre .1 .1 .a-in, lo-le-a (s .pre .1 .0) (s .pre .1 .1))
 
   either-requires : lts.Need-either-requires (claims t) (at t) eliminate.Post
@@ -103,7 +106,7 @@ module _ (t : ℕ) where
 
   returns : lts.Need-returns (claims t) (at t) eliminate.Post
   returns c =
-      let o = c .before .before in let w = o .before .before in let d = w .before .before .before .before in let s = d .before in
+      let o = c .before .before in let w = o .before .before in let d = added w in let s = d .before in
       eliminated-here (s .pre .1 .0) (ready s) (d .add .ensures) (table-row w) (o .other .ensures) (o .before .next-pivot .ensures)
       (sym (c .before .either .ensures) ∙ c .if1 .taken)
 
@@ -112,8 +115,7 @@ module _ (t : ℕ) where
 
   eliminate-requires : lts.Need-eliminate-requires (claims t) (at t) eliminate.Post
   eliminate-requires c κs =
-      let g = goes (c .before) in
-      let s = c .before .before .before .before .before .before .before .before .before .before in (
+      let g = goes (c .before) in let o = c .before .before .before in let s = added (o .before .before) .before in (
         omega (arith, g .less, s .pre .0),
         (g .fine, g .ready (toZ w64 (ofZ w64 (c .quotient .result))) (rw (toZ-ofZ {w = w64} (record { sfits = c .quotient .ok })) (c .quotient .ensures))),
       )

@@ -1,4 +1,5 @@
--- `Work::rows` is the definition's. The inner loop's invariant is the scan of a row, the outer one's that what is left to do is what it was.
+-- `Work::rows` is the definition's. The inner loop keeps the best column of those scanned in a row; the outer one, that what is left to do after the rows done
+-- is what the whole was at the start.
 use Prim.Native.Nat.{_*_, _-_}
 use native.Mathlib.Omega.{arith}
 use borrow.Author.Needs.{needs}
@@ -29,6 +30,10 @@ long c = record { t = search needs; v = search needs; w = search needs }
 long-then : (c : tie.After-row Inv-loop μ-loop Inv-rows μ-rows) → Long (c .row .result)
 long-then c = record { t = search needs; v = search needs; w = search needs }
 
+-- in the scan of a row: where it goes on, from the table read there
+abbrev scanning : tie.After-table Inv-loop μ-loop Inv-rows μ-rows → tie.Else1 Inv-loop μ-loop Inv-rows μ-rows
+scanning c = let self = c .before .before .before in self .before
+
 rows-holds : tie.Need-rows-holds Inv-loop μ-loop Inv-rows μ-rows
 rows-holds c = rowed-start (c .pre .0) (long c) (c .pre .1)
 
@@ -58,25 +63,25 @@ table-requires c κs = search needs
 
 better-requires : tie.Need-better-requires Inv-loop μ-loop Inv-rows μ-rows
 better-requires c κs =
-    let l = c .before .before .before .before .before in let i = l .before in let g = i .before .rows in let s = i .before .before in
+    let e = scanning c in let l = e .before in let i = l .before in let g = i .before .rows in let s = i .before .before in
     let r = row-of-table (s .args .stage2) (g .inv .fine) (row-there (s .pre .1) (g .inv) (i .rows-test .taken)) (g .inv .long) (c .table .ensures) in
     record {
-      j-in = omega (arith, r .whole, c .before .before .before .before .if1 .left, g .inv .high);
+      j-in = omega (arith, r .whole, e .if1 .left, g .inv .high);
       upto = l .loop .inv .upto;
       best-in = λ h. omega (arith, r .whole, g .inv .high);
     }
 
 add-j : tie.Need-add-j Inv-loop μ-loop Inv-rows μ-rows
 add-j c =
-    let e = c .before .before .before .before .before in let g = e .before .before .before .rows in
+    let e = scanning (c .before) in let g = e .before .before .before .rows in
     omega (arith, e .if1 .left, g .inv .high, g .inv .fine .cols)
 
 loop-less : tie.Need-loop-less Inv-loop μ-loop Inv-rows μ-rows
-loop-less c = omega (arith, c .before .before .before .before .before .if1 .left)
+loop-less c = omega (arith, scanning (c .before) .if1 .left)
 
 loop-again : tie.Need-loop-again Inv-loop μ-loop Inv-rows μ-rows
 loop-again c =
-    let e = c .before .before .before .before .before in
+    let e = scanning (c .before) in
     rw (c .better .ensures, c .before .table .ensures) (best-step (e .before .loop .inv) (e .if1 .left))
 
 row-requires : tie.Need-row-requires Inv-loop μ-loop Inv-rows μ-rows
@@ -96,7 +101,7 @@ returns c =
     (c .before .row .ensures) (c .if3 .taken)
 
 rows-less-2 : tie.Need-rows-less-2 Inv-loop μ-loop Inv-rows μ-rows
-rows-less-2 c = omega (arith, c .before .before .before .before .before .rows-test .taken)
+rows-less-2 c = let e = c .before .before in omega (arith, e .before .before .before .rows-test .taken)
 
 rows-again-2 : tie.Need-rows-again-2 Inv-loop μ-loop Inv-rows μ-rows
 rows-again-2 c =
