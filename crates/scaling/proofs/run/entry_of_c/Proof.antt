@@ -44,14 +44,15 @@ module _ (c : tie.After-k) where
 
 returns : tie.Need-returns
 returns c =
-    let b = c .before .before .before .before .before in
+    let k = c .before .before .before in
+    let b = start k in
     rw (toZ-ofZ {w = w32} (record { sfits = c .opposite .ok })) (
     rw (toZ-ofZ {w = w32} (record { sfits = c .before .opposite-arg .given })) at (c .opposite .ensures)
-    ∙ C-modulus (b .pre .0) (b .pre .1 .1) (omega (arith, count b)) (sym (row (c .before .before .before)) ∙ c .before .before .if2 .taken))
+    ∙ C-modulus (b .pre .0) (b .pre .1 .1) (omega (arith, count b)) (sym (row k) ∙ c .before .before .if2 .taken))
 
 returns-2 : tie.Need-returns-2
 returns-2 c =
-    let b = c .before .before .before in
+    let b = start (c .before) in
     C-else (b .pre .0) (b .pre .1 .1) (omega (arith, count b)) (λ e. c .if2 .left (row (c .before) ∙ e))
 
 module _ (c : tie.Else1) where

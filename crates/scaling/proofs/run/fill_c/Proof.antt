@@ -8,6 +8,7 @@ use lib.ListN.{length, drop, length-set}
 use mir.Syntax.{w32}
 use mir.Facts.{toZ-ofZ}
 use Rattle.whole.specs.Lists.{tab}
+use Rattle.rules.specs.Limits.{roomH}
 use Rattle.rules.specs.Problem.{Problem, N}
 use Rattle.checks.specs.Moduli.{lentProblem}
 use Rattle.scaling.proofs.Filling.{front-turn}
@@ -35,8 +36,11 @@ module _ (b : tie.Start Inv-loop μ-loop) where
   some : 0 < cols
   some = columns-above (b .pre .1 .0) count
 
-  fit : problem .m * cols ≤ 192
+  fit : problem .m * cols ≤ roomH
   fit = area-above (b .pre .1 .0) count
+
+abbrev entry : tie.In-loop Inv-loop μ-loop → tie.Start Inv-loop μ-loop
+entry c = c .before .before .before
 
 add-cols : tie.Need-add-cols Inv-loop μ-loop
 add-cols c = search needs
@@ -48,31 +52,31 @@ mul-loop : tie.Need-mul-loop Inv-loop μ-loop
 mul-loop c = let h = fit (c .before .before) in omega arith
 
 div-entry-of-c : tie.Need-div-entry-of-c Inv-loop μ-loop
-div-entry-of-c c = some (c .before .before .before)
+div-entry-of-c c = some (entry c)
 
 rem-entry-of-c : tie.Need-rem-entry-of-c Inv-loop μ-loop
-rem-entry-of-c c = some (c .before .before .before)
+rem-entry-of-c c = some (entry c)
 
 entry-of-c-requires : tie.Need-entry-of-c-requires Inv-loop μ-loop
 entry-of-c-requires c κs =
-    let b = c .before .before .before in
+    let b = entry c in
     (b .pre .1 .0, (b .pre .1 .1, place-in (b .pre .1 .0) (count b) (c .before .loop .k) (c .loop-test .taken)))
 
 mul-x : tie.Need-mul-x Inv-loop μ-loop
-mul-x c = let h = fit (c .before .before .before .before) in omega arith
+mul-x c = let h = fit (entry (c .before)) in omega arith
 
 element-set-from-x : tie.Need-element-set-from-x Inv-loop μ-loop
-element-set-from-x c = let h = fit (c .before .before .before .before) in omega arith
+element-set-from-x c = let h = fit (entry (c .before)) in omega arith
 
 add-k : tie.Need-add-k Inv-loop μ-loop
-add-k c = let h = fit (c .before .before .before .before) in omega arith
+add-k c = let h = fit (entry (c .before)) in omega arith
 
 loop-less : tie.Need-loop-less Inv-loop μ-loop
 loop-less c = omega arith
 
 loop-again : tie.Need-loop-again Inv-loop μ-loop
 loop-again c =
-    let b = c .before .before .before .before in
+    let b = entry (c .before) in
     let l = c .before .before .loop in
     let h = fit b in (
       omega arith,

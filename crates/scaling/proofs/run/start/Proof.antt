@@ -2,6 +2,7 @@
 use mathlib.Core.Path.{ap}
 use Prim.Native.Nat.{ℕ, _+_}
 use borrow.Author.Needs.{needs}
+use Rattle.rules.specs.Limits.{roomH, roomV}
 use Rattle.theory.proofs.Start.{nth-zeros}
 use Rattle.scaling.proofs.Starting.{start-same}
 use Rattle.scaling.proofs.run.start.Statement.{statement}
@@ -18,9 +19,10 @@ fill-identity-requires c κs = search needs
 
 returns : tie.Need-returns
 returns c =
-    let b = c .before .before .before .before .before in
-    start-same (b .pre .0) (c .before .before .before .fill-c .ensures) (nth-zeros 192)
-    (ap (λ (x : ℕ). b .args .n + x) (b .pre .1 .count)) (c .fill-identity .ensures) (nth-zeros 576)
+    let f = c .before .before .before in
+    let s = f .before .before in
+    start-same (s .pre .0) (f .fill-c .ensures) (nth-zeros roomH)
+    (ap (λ (x : ℕ). s .args .n + x) (s .pre .1 .count)) (c .fill-identity .ensures) (nth-zeros roomV)
 
 pub start-spec : {M : Type 1} → statement M
 start-spec = tie.close (tie.spec fill-c-requires add-fill-identity fill-identity-requires returns)

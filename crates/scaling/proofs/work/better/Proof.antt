@@ -1,4 +1,4 @@
--- `work::better` meets its contract: by the two sizes, as `betterOf` has it.
+-- `work::better` meets its contract: of the two sizes the tests are those of `betterOf`, each way out one of its four cases.
 use mathlib.Core.Path.{_≡_, sym, ap, _∙_}
 use mathlib.Core.Logic.{_≢_}
 use Prim.Native.Nat.{ℕ, _+_, _<_, _≤_}
@@ -40,23 +40,40 @@ shared-slice-copy-out-size c = search needs
 size-requires : tie.Need-size-requires
 size-requires c κs = search needs
 
-y-is : (c : tie.After-size) → let a = c .before .before .args in c .size .result ≡ sizes (a .x .now) (a .base) (a .j)
-y-is c = let a = c .before .before .args in c .size .ensures ∙ ap natAbs (held (nth (a .x .now) (a .j + a .base)) (c .before .size-arg .given))
+-- ---- the points where the sizes are known, y and then z
+module _ (c : tie.After-size) where
+  abbrev entry : tie.Start
+  entry = c .before .before
+
+  abbrev f : ℕ → ℕ
+  f = sizes (entry .args .x .now) (entry .args .base)
+
+  y-is : c .size .result ≡ f (entry .args .j)
+  y-is = c .size .ensures ∙ ap natAbs (held (nth (entry .args .x .now) (entry .args .j + entry .args .base)) (c .before .size-arg .given))
+
+module _ (c : tie.After-size2) where
+  abbrev not-first : tie.Else2
+  not-first = c .before .before
+
+  abbrev y : tie.After-size
+  y = not-first .before .before
+
+  z-is : c .size2 .result ≡ f y (entry y .args .best)
+  z-is = let a = entry y .args in c .size2 .ensures ∙ ap natAbs (held (nth (a .x .now) (a .best + a .base)) (c .before .size-arg2 .given))
+
+  filled : f y (entry y .args .j) ≢ 0
+  filled h = not-first .before .if1 .left (y-is y ∙ h)
 
 returns : tie.Need-returns
-returns c =
-    let y = c .before in
-    let a = y .before .before .args in
-    zero-stays (a .hi) (a .best) (a .j) (sizes (a .x .now) (a .base)) (sym (y-is y) ∙ c .if1 .taken)
+returns c = let y = c .before in let a = entry y .args in zero-stays (a .hi) (a .best) (a .j) (f y) (sym (y-is y) ∙ c .if1 .taken)
 
 returns-2 : tie.Need-returns-2
 returns-2 c =
-    let y = c .before .before in
-    let a = y .before .before .args in
-    first-comes (a .hi) (a .best) (a .j) (sizes (a .x .now) (a .base)) (λ e. c .before .if1 .left (y-is y ∙ e)) (c .if2 .taken)
+    let y = c .before .before in let a = entry y .args in
+    first-comes (a .hi) (a .best) (a .j) (f y) (λ e. c .before .if1 .left (y-is y ∙ e)) (c .if2 .taken)
 
-best-in : (c : tie.Else2) → let a = c .before .before .before .before .args in a .best + a .base < length (a .x .now)
-best-in c = let s = c .before .before .before .before in s .pre .best-in (omega (arith, s .pre .upto, c .if2 .left))
+best-in : (c : tie.Else2) → let a = entry (c .before .before) .args in a .best + a .base < length (a .x .now)
+best-in c = let s = entry (c .before .before) in s .pre .best-in (omega (arith, s .pre .upto, c .if2 .left))
 
 add-size-2 : tie.Need-add-size-2
 add-size-2 c = let h = best-in c in omega arith
@@ -70,42 +87,18 @@ shared-slice-copy-out-size-2 c = best-in c
 size-requires-2 : tie.Need-size-requires-2
 size-requires-2 c κs = search needs
 
-z-is : (c : tie.After-size2) → let a = c .before .before .before .before .before .before .args in c .size2 .result ≡ sizes (a .x .now) (a .base) (a .best)
-z-is c =
-    let a = c .before .before .before .before .before .before .args in
-    c .size2 .ensures ∙ ap natAbs (held (nth (a .x .now) (a .best + a .base)) (c .before .size-arg2 .given))
-
 returns-3 : tie.Need-returns-3
 returns-3 c =
-    let z = c .before in
-    let e = z .before .before in
-    let y = e .before .before in
-    let a = y .before .before .args in
-    less-comes (a .hi) (a .best) (a .j) (sizes (a .x .now) (a .base))
-    (λ h. e .before .if1 .left (y-is y ∙ h)) (e .if2 .left) (omega (arith, y-is y, z-is z, c .if3 .taken))
+    let z = c .before in let a = entry (y z) .args in
+    less-comes (a .hi) (a .best) (a .j) (f (y z)) (filled z) (not-first z .if2 .left) (omega (arith, y-is (y z), z-is z, c .if3 .taken))
 
 returns-4 : tie.Need-returns-4
 returns-4 c =
-    let z = c .before in
-    let e = z .before .before in
-    let y = e .before .before in
-    let a = y .before .before .args in
-    best-stays (a .hi) (a .best) (a .j) (sizes (a .x .now) (a .base))
-    (λ h. e .before .if1 .left (y-is y ∙ h)) (e .if2 .left) (omega (arith, y-is y, z-is z, c .if3 .left))
+    let z = c .before in let a = entry (y z) .args in
+    best-stays (a .hi) (a .best) (a .j) (f (y z)) (filled z) (not-first z .if2 .left) (omega (arith, y-is (y z), z-is z, c .if3 .left))
 
 pub better-spec : {M : Type 1} → statement M
 better-spec =
     tie.close
-    (tie.spec
-    add-size
-    mul-size
-    shared-slice-copy-out-size
-    size-requires
-    returns
-    returns-2
-    add-size-2
-    mul-size-2
-    shared-slice-copy-out-size-2
-    size-requires-2
-    returns-3
-    returns-4)
+    (tie.spec add-size mul-size shared-slice-copy-out-size size-requires returns returns-2 add-size-2 mul-size-2 shared-slice-copy-out-size-2
+    size-requires-2 returns-3 returns-4)

@@ -43,15 +43,16 @@ is-zero-requires c κs = search needs
 returns : tie.Need-returns Inv-loop μ-loop
 returns c =
     let z = c .before in
-    let l = z .before .before .before .before .loop in
-    let a = z .before .before .before .before .before .args in
+    let tested = z .before .before in
+    let l = tested .before .before .loop in
+    let a = tested .before .before .before .args in
     let f = sizes (a .x .now) (a .base) in
     let e : isZero (nth (a .x .now) (l .j + a .base)) ≡ false
     = sym (ap isZero (held (nth (a .x .now) (l .j + a .base)) (z .before .is-zero-arg .given))) ∙ sym (z .is-zero .ensures) ∙ not-true _ (c .if2 .taken) in
     record {
       upto = omega arith;
       hit = λ h. first-hit (isOther f (a .p)) (a .lo) (l .j) (a .hi) (l .inv .0) h (l .inv .2)
-          (is-true (is-other f (a .p) (l .j)) (λ n. eqb-false (f (l .j)) 0 e (n (z .before .before .if1 .taken))));
+          (is-true (is-other f (a .p) (l .j)) (λ n. eqb-false (f (l .j)) 0 e (n (tested .if1 .taken))));
       miss = λ h. absurd (omega arith);
     }
 
