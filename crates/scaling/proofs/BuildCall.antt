@@ -18,7 +18,7 @@ use Rattle.checks.specs.Checks.{given, TellsTo5}
 use Rattle.checks.specs.Moduli.{lentProblem}
 use Rattle.checks.proofs.Verdicts.{Passed, to5, problem-refused, problem-passed, past-5}
 use Rattle.scaling.specs.declared.BuildAnswer.{BuildAnswer}
-use Rattle.scaling.specs.BuildPromise.{Builds, RoomToBuild}
+use Rattle.scaling.specs.BuildPromise.{Builds, buildChecked, RoomToBuild}
 
 -- the outputs' lengths, as the code takes them together
 abbrev pub roomy : (h v w : List ℤ) → Bool
@@ -63,6 +63,6 @@ module _ {m n : ℕ} {matrix moduli h v w : List ℤ} {outputs : Bool} {c : Refu
         record { h = leb-true roomH (length h) (all .0); v = leb-true roomV (length v) (rest .0); w = leb-true roomW (length w) (rest .1) }
 
     pub build-passed : {r : BuildAnswer} {h₁ v₁ w₁ : List ℤ}
-        → Builds (built (lentProblem n matrix moduli) h v w (verdict (rangeCheck (run (lentProblem n matrix moduli)) ∷ []))) r h₁ v₁ w₁
+        → Builds (buildChecked (lentProblem n matrix moduli) h v w) r h₁ v₁ w₁
         → Builds (buildOf P h v w) r h₁ v₁ w₁
     build-passed b = rw (build-is, past-5 (k .tells) e (rangeCheck (run P) ∷ []), passed .same) b

@@ -14,13 +14,13 @@ use Rattle.whole.specs.Matrix.{Matrix}
 use Rattle.rules.specs.Problem.{Problem, N, WellFormed}
 use Rattle.rules.specs.Steps.{State, get}
 use Rattle.rules.specs.Stages.{run, W}
-use Rattle.rules.specs.Calls.{taken, refused, verdict, rangeCheck, grid, contentsH, contentsV, contentsW, filled, built}
+use Rattle.rules.specs.Calls.{taken, refused, verdict, rangeCheck, grid, contentsH, contentsV, contentsW, filled}
 use Rattle.theory.proofs.Run.{run-right}
 use Rattle.theory.proofs.Grid.{table, grid-cong, grid-of-table}
 use Rattle.scaling.specs.declared.run.Outcome.{Outcome}
 use Rattle.scaling.specs.WorkState.{stateOf, tableFor, heightFor, entriesFor}
 use Rattle.scaling.specs.Problem.{Ran}
-use Rattle.scaling.specs.BuildPromise.{Builds}
+use Rattle.scaling.specs.BuildPromise.{Builds, buildChecked}
 use Rattle.scaling.proofs.MatrixC.{area, square}
 use Rattle.scaling.proofs.State.{Long, state-get, state-getW}
 
@@ -48,7 +48,7 @@ module _ {P : Problem} {r : Outcome} (g : WellFormed P) (d : Ran P r) where
       rw e
 
   pub builds-refused : r .work .over ≡ true → (h v w : List ℤ)
-      → Builds (built P h v w (verdict (rangeCheck (run P) ∷ []))) (record { number = 7; place = 0; rank = 0; moduli = 0; steps = 0 }) h v w
+      → Builds (buildChecked P h v w) (record { number = 7; place = 0; rank = 0; moduli = 0; steps = 0 }) h v w
   builds-refused o h v w =
       rw (range-refused o) (record { number = refl; place = refl; rank = refl; moduli = refl; steps = refl; h = refl; v = refl; w = refl })
 
@@ -84,7 +84,7 @@ module _ {P : Problem} {r : Outcome} (g : WellFormed P) (d : Ran P r) where
 
       pub builds-taken : (h v w : List ℤ) {h₁ v₁ w₁ : List ℤ}
           → h₁ ≡ filled (take (P .m * x) (r .work .t)) h → v₁ ≡ filled (take (x * x) (r .work .v)) v → w₁ ≡ filled (take (x * x) (r .work .w)) w
-          → Builds (built P h v w (verdict (rangeCheck (run P) ∷ [])))
+          → Builds (buildChecked P h v w)
           (record { number = 0; place = 0; rank = r .rank; moduli = r .s; steps = r .work .steps }) h₁ v₁ w₁
       builds-taken h v w eh ev ew = rw (range-taken o) (record {
         number = refl;

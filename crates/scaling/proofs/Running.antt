@@ -12,7 +12,7 @@ use Rattle.theory.proofs.Flag.{stage2-over, stage3-over}
 use Rattle.scaling.specs.declared.work.Work.{Work}
 use Rattle.scaling.specs.WorkState.{stateOf, Fine, Tracks, Same}
 use Rattle.scaling.specs.Rows.{RowsBegun, RowsDone, Stage3Begun}
-use Rattle.scaling.specs.Problem.{Ran}
+use Rattle.scaling.specs.Problem.{Starts, Ran}
 
 -- two states that are both over
 both-over : {m n : ℕ} {w : Work} {u : State} → w .over ≡ true → u .over ≡ true → Tracks m n w u
@@ -22,7 +22,7 @@ both-over o p = record { flag = o ∙ sym p; fine = λ f. absurd (false≢true (
 pub record Started (P : Problem) (x count : ℕ) (w₀ : Work) : Type 0 where
   pub columns : x ≡ N P
   pub counted : count ≡ s P
-  pub begun : Same (P .m) (N P) w₀ (start (columnsOf P))
+  pub begun : Starts P w₀
 
 module _ {P : Problem} {x count : ℕ} {w₀ : Work} (k : Started P x count w₀) where
   e : x ≡ N P

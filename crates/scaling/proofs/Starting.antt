@@ -20,8 +20,8 @@ use Rattle.theory.proofs.Start.{start-count, start-line, nth-unit, length-unit}
 use Rattle.theory.proofs.Shape.{length-columns, column-length}
 use Rattle.theory.proofs.Sizes.{N-le-24}
 use Rattle.scaling.specs.declared.work.Work.{Work}
-use Rattle.scaling.specs.WorkState.{pick, lineOf, Small, Same}
-use Rattle.scaling.specs.Problem.{HoldsC, HoldsIdentity}
+use Rattle.scaling.specs.WorkState.{pick, lineOf, Small}
+use Rattle.scaling.specs.Problem.{HoldsC, HoldsIdentity, Starts}
 use Rattle.scaling.proofs.MatrixC.{columns-some, C-small, place-in}
 use Rattle.scaling.proofs.State.{state-is}
 
@@ -104,7 +104,7 @@ module _ {P : Problem} {t t₀ : List ℤ} (g : WellFormed P) (h : HoldsC P t t�
       identity-row identity y c l,
     )
 
-    pub start-same : Same (P .m) (N P) begun (start (columns P))
+    pub start-same : Starts P begun
     start-same = record {
       fine = record {
         rows = g .m-high;

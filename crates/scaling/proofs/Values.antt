@@ -1,16 +1,19 @@
--- Single values: what is stored, and the floored quotient by signs.
-use mathlib.Core.Path.{_≡_, refl, ap, _∙_}
+-- Single values: what is stored, the floored quotient by signs, and a quotient of two entries that can be negated.
+use mathlib.Core.Path.{_≡_, refl, ap, ap₂, _∙_}
 use mathlib.Core.Bool.{Bool, true, false, cond}
 use Prim.Native.Nat.{ℕ, zero, suc, _/_, _≤_}
 use native.Mathlib.Nat.{zero-div}
 use native.Mathlib.Omega.{arith}
 use lib.IntN.{ℤ, pos, negsuc, natAbs, negℤ, _-ℤ_}
 use lib.Signed.{_≤ℤ_, _<ℤ_, quotZ}
+use mir.Syntax.{w32, w64}
+use mir.Val.{SFits, toZ, ofZ}
+use mir.Facts.{toZ-ofZ}
 use Rattle.whole.specs.Division.{floorZ}
 use Rattle.whole.proofs.Order.{zarith, -is}
 use Rattle.whole.proofs.Signs.{less-pos, less-neg}
 use Rattle.rules.specs.Limits.{M, beyond}
-use Rattle.checks.proofs.Values.{within, not-beyond}
+use Rattle.checks.proofs.Values.{abs32, within, not-beyond}
 use Rattle.scaling.specs.Strided.{keep}
 
 -- ---- what is stored
@@ -51,3 +54,14 @@ floor-neg-neg a (pos b) h l = absurd (omega zarith)
 floor-neg-neg (pos zero) (negsuc b) h l = ap (λ (k : ℕ). negℤ (pos k)) (zero-div (suc b))
 floor-neg-neg (pos (suc a)) (negsuc b) h l = absurd (omega zarith)
 floor-neg-neg (negsuc a) (negsuc b) h l = refl
+
+-- ---- a quotient of two entries, by either division, as it is answered: z
+pub record Quotient (div : ℤ → ℤ → ℤ) (a b z : ℤ) : Type 0 where
+  pub is : toZ w64 (ofZ w64 z) ≡ div a b
+  pub small : natAbs (toZ w64 (ofZ w64 z)) ≤ 2147483648
+
+pub quotient-of : {div : ℤ → ℤ → ℤ} → ((a b : ℤ) → natAbs (div a b) ≤ natAbs a) → (a b : ℤ) {z : ℤ} → SFits w32 a → SFits w32 b → SFits w64 z
+    → z ≡ div (toZ w32 (ofZ w32 a)) (toZ w32 (ofZ w32 b)) → Quotient div a b z
+quotient-of {div} le a b {z} f g h e =
+    let i : toZ w64 (ofZ w64 z) ≡ div a b = toZ-ofZ h ∙ e ∙ ap₂ div (toZ-ofZ f) (toZ-ofZ g) in
+    record { is = i; small = rw i (omega (arith, le a b, abs32 a f)) }

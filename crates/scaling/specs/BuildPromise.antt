@@ -1,11 +1,13 @@
 -- What `build` answers and leaves in the lent outputs, held to what rules/specs/Calls says of it.
 use mathlib.Core.Path.{_≡_}
-use mathlib.Core.List.{List}
+use mathlib.Core.List.{List, _∷_, []}
 use Prim.Native.Nat.{_≤_}
 use lib.ListN.{length}
 use lib.IntN.{ℤ}
 use Rattle.rules.specs.Limits.{roomH, roomV, roomW}
-use Rattle.rules.specs.Calls.{Built}
+use Rattle.rules.specs.Problem.{Problem}
+use Rattle.rules.specs.Stages.{run}
+use Rattle.rules.specs.Calls.{verdict, rangeCheck, Built, built}
 use Rattle.scaling.specs.declared.BuildAnswer.{BuildAnswer}
 
 -- of numbers, or of bytes where the call lends bytes
@@ -18,6 +20,10 @@ pub record Builds {A : Type 0} (b : Built A) (r : BuildAnswer) (h₁ v₁ w₁ :
   pub h : h₁ ≡ b .h
   pub v : v₁ ≡ b .v
   pub w : w₁ ≡ b .w
+
+-- a build of a problem that has passed checks 1 to 5: check 7 alone is left
+abbrev pub buildChecked : Problem → (h₀ v₀ w₀ : List ℤ) → Built ℤ
+buildChecked P h₀ v₀ w₀ = built P h₀ v₀ w₀ (verdict (rangeCheck (run P) ∷ []))
 
 pub record RoomToBuild (h₀ v₀ w₀ : List ℤ) : Type 0 where
   pub h : roomH ≤ length h₀

@@ -1,4 +1,4 @@
--- A problem's matrix C as the code writes it, and what its run ends with.
+-- A problem's matrix C as the code writes it, and what its run begins and ends with.
 use mathlib.Core.Path.{_≡_}
 use mathlib.Core.Bool.{false}
 use mathlib.Core.List.{List}
@@ -7,10 +7,12 @@ use lib.ListN.{length}
 use lib.IntN.{ℤ, pos}
 use Rattle.whole.specs.Lists.{nth}
 use Rattle.whole.specs.Matrix.{δ}
-use Rattle.rules.specs.Problem.{Problem, s, N, C}
+use Rattle.rules.specs.Problem.{Problem, s, N, C, columns}
+use Rattle.rules.specs.Steps.{start}
 use Rattle.rules.specs.Stages.{run}
 use Rattle.scaling.specs.declared.run.Outcome.{Outcome}
-use Rattle.scaling.specs.WorkState.{Tracks}
+use Rattle.scaling.specs.declared.work.Work.{Work}
+use Rattle.scaling.specs.WorkState.{Same, Tracks}
 
 -- an entry of C
 pub record InC (P : Problem) (i c : ℕ) : Type 0 where
@@ -28,6 +30,10 @@ pub record HoldsIdentity (n : ℕ) (a a₀ : List ℤ) : Type 0 where
   pub entries : ((k : ℕ) → nth a₀ k ≡ pos 0) → (i j : ℕ) → i < n → j < n → nth a (i * n + j) ≡ δ i j
   pub rest : (k : ℕ) → n * n ≤ k → nth a k ≡ nth a₀ k
   pub same : length a ≡ length a₀
+
+-- what the whole run begins with
+abbrev pub Starts : Problem → Work → Type 0
+Starts P r = Same (P .m) (N P) r (start (columns P))
 
 -- what the whole run ends with
 pub record Ran (P : Problem) (r : Outcome) : Type 0 where

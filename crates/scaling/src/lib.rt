@@ -1,24 +1,21 @@
 // Glaukemis: the Hermite form, the normal multiplier and its inverse.
 ghost use mathlib.Core.Path.{_≡_};
-ghost use mathlib.Core.List.{_∷_, []};
 ghost use Prim.Native.Nat.{_≤_};
 ghost use lib.ListN.{length, take};
 ghost use Rattle.rules.specs.Problem.{WellFormed};
-ghost use Rattle.rules.specs.Stages as stages;
-ghost use Rattle.rules.specs.Calls.{verdict, rangeCheck, filled, built, buildOf};
+ghost use Rattle.rules.specs.Calls.{filled, buildOf};
 ghost use Rattle.checks.specs.Checks.{given};
 ghost use Rattle.checks.specs.Moduli.{lentProblem};
-ghost use Rattle.scaling.specs.BuildPromise.{Builds, RoomToBuild};
+ghost use Rattle.scaling.specs.BuildPromise.{Builds, buildChecked, RoomToBuild};
 use checks::ROOM_H;
 use checks::ROOM_V;
 use checks::ROOM_W;
+use checks::both;
 
 mod numbers;
 mod run;
 mod strided;
 mod work;
-
-use checks::both;
 
 // What a build answers: the number 0 with the rank, how many rows have a modulus and how many steps it took; or a refusal's number and place.
 #[repr(C)]
@@ -53,7 +50,7 @@ fn build_checked(
 ) -> BuildAnswer
     requires { ⌜ WellFormed (lentProblem n (now matrix) (now moduli)) ⌝ }
     requires { ⌜ RoomToBuild (now h) (now v) (now w) ⌝ }
-    ensures { λ r. ⌜ Builds (built (lentProblem n (now (matrix .entry)) (now (moduli .entry))) (now (h .entry)) (now (v .entry)) (now (w .entry)) (verdict (rangeCheck (stages.run (lentProblem n (now (matrix .entry)) (now (moduli .entry)))) ∷ []))) r (now (h .exit)) (now (v .exit)) (now (w .exit)) ⌝ }
+    ensures { λ r. ⌜ Builds (buildChecked (lentProblem n (now (matrix .entry)) (now (moduli .entry))) (now (h .entry)) (now (v .entry)) (now (w .entry))) r (now (h .exit)) (now (v .exit)) (now (w .exit)) ⌝ }
 {
     let u = run::run(n, matrix, moduli);
     let work = u.work;

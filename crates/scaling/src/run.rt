@@ -2,13 +2,11 @@
 ghost use mathlib.Core.Path.{_≡_};
 ghost use Prim.Native.Nat.{_<_, _≤_, _+_, _*_};
 ghost use lib.ListN.{length};
-ghost use Rattle.rules.specs.Problem.{s, N, C, columns, WellFormed};
-ghost use Rattle.rules.specs.Steps as steps;
-ghost use Rattle.scaling.specs.WorkState.{Same};
+ghost use Rattle.rules.specs.Limits.{roomH, roomV};
+ghost use Rattle.rules.specs.Problem.{C, WellFormed};
 ghost use Rattle.checks.specs.Moduli.{lentProblem, Lists};
-ghost use Rattle.scaling.specs.Problem.{InC, HoldsC, HoldsIdentity, Ran};
+ghost use Rattle.scaling.specs.Problem.{InC, HoldsC, HoldsIdentity, Starts, Ran};
 use crate::numbers::opposite;
-use crate::work::Progress;
 use crate::work::Work;
 use checks::ModulusRows;
 use checks::ROOM_H;
@@ -34,7 +32,7 @@ fn entry_of_c(n: usize, matrix: &[i32], moduli: &[i32], q: ModulusRows, i: usize
 }
 
 fn fill_c(t: &mut [i32; ROOM_H], n: usize, matrix: &[i32], moduli: &[i32], q: ModulusRows)
-    requires { ⌜ length (now t) ≡ 192 ⌝ }
+    requires { ⌜ length (now t) ≡ roomH ⌝ }
     requires { ⌜ WellFormed (lentProblem n (now matrix) (now moduli)) ⌝ }
     requires { ⌜ Lists (lentProblem n (now matrix) (now moduli)) q ⌝ }
     ensures { λ r. ⌜ HoldsC (lentProblem n (now (matrix .entry)) (now (moduli .entry))) (now (t .exit)) (now (t .entry)) ⌝ }
@@ -50,7 +48,7 @@ fn fill_c(t: &mut [i32; ROOM_H], n: usize, matrix: &[i32], moduli: &[i32], q: Mo
 
 // 1 on the diagonal of n by n entries, in a list of zeros.
 fn fill_identity(a: &mut [i32; ROOM_V], n: usize)
-    requires { ⌜ (n ≤ 24) × (length (now a) ≡ 576) ⌝ }
+    requires { ⌜ (n ≤ 24) × (length (now a) ≡ roomV) ⌝ }
     ensures { λ r. ⌜ HoldsIdentity n (now (a .exit)) (now (a .entry)) ⌝ }
 {
     let mut i = 0;
@@ -63,7 +61,7 @@ fn fill_identity(a: &mut [i32; ROOM_V], n: usize)
 pub fn start(n: usize, matrix: &[i32], moduli: &[i32], q: ModulusRows) -> Work
     requires { ⌜ WellFormed (lentProblem n (now matrix) (now moduli)) ⌝ }
     requires { ⌜ Lists (lentProblem n (now matrix) (now moduli)) q ⌝ }
-    ensures { λ r. ⌜ Same (length (now (moduli .entry))) (N (lentProblem n (now (matrix .entry)) (now (moduli .entry)))) r (steps.start (columns (lentProblem n (now (matrix .entry)) (now (moduli .entry))))) ⌝ }
+    ensures { λ r. ⌜ Starts (lentProblem n (now (matrix .entry)) (now (moduli .entry))) r ⌝ }
 {
     let mut t: [i32; ROOM_H] = [0; ROOM_H];
     fill_c(&mut t, n, matrix, moduli, q);

@@ -1,16 +1,13 @@
--- `work::floor_quotient` meets its contract: the negated quotient of the two entries, which is no larger than the first of them, so that it can be negated.
-use mathlib.Core.Path.{_≡_, ap, ap₂, _∙_}
+-- `work::floor_quotient` meets its contract: the quotient of the two entries is no larger than the first of them, so that it can be negated.
+use mathlib.Core.Path.{ap, _∙_}
 use Prim.Native.Nat.{_+_}
-use native.Mathlib.Omega.{arith}
+use borrow.Author.Needs.{needs}
 use lib.IntN.{negℤ}
-use mir.Syntax.{w64}
-use mir.Val.{toZ, ofZ}
 use mir.Facts.{toZ-ofZ}
 use Rattle.whole.specs.Lists.{nth}
 use Rattle.whole.specs.Division.{floorZ}
 use Rattle.whole.proofs.Division.{floor-le}
-use Rattle.checks.proofs.Values.{abs32, held}
-use borrow.Author.Needs.{needs}
+use Rattle.scaling.proofs.Values.{Quotient, quotient-of}
 use Rattle.scaling.proofs.work.floor_quotient.Statement.{statement}
 use Rattle.scaling.proofs.work.floor_quotient.Tie as tie
 
@@ -35,34 +32,17 @@ shared-slice-copy-out-z c = search needs
 floor-requires : tie.Need-floor-requires
 floor-requires c κs = search needs
 
--- the quotient of the two entries
-quotient-is : (c : tie.After-floor) → let s = c .before .before .before in
-    toZ w64 (ofZ w64 (c .floor .result)) ≡ floorZ (nth (s .args .x .now) (s .args .c + s .args .base)) (nth (s .args .x .now) (s .args .b + s .args .base))
-quotient-is c =
-    let s = c .before .before .before in
-    toZ-ofZ (record { sfits = c .floor .ok }) ∙ c .floor .ensures
-    ∙ ap₂ floorZ (held (nth (s .args .x .now) (s .args .c + s .args .base)) (c .before .before .y .given))
-    (held (nth (s .args .x .now) (s .args .b + s .args .base)) (c .before .z .given))
+divided : (c : tie.After-floor)
+    → let a = c .before .before .before .args in Quotient floorZ (nth (a .x .now) (a .c + a .base)) (nth (a .x .now) (a .b + a .base)) (c .floor .result)
+divided c = quotient-of floor-le _ _ (record { sfits = c .before .before .y .given }) (record { sfits = c .before .z .given }) (record { sfits = c .floor .ok }) (c .floor .ensures)
 
 minus-requires : tie.Need-minus-requires
-minus-requires c κs =
-    let s = c .before .before .before in
-    let a = nth (s .args .x .now) (s .args .c + s .args .base) in
-    rw (quotient-is c) (omega (arith, floor-le a (nth (s .args .x .now) (s .args .b + s .args .base)), abs32 a (record { sfits = c .before .before .y .given })))
+minus-requires c κs = divided c .small
 
 returns : tie.Need-returns
-returns c = toZ-ofZ (record { sfits = c .minus .ok }) ∙ c .minus .ensures ∙ ap negℤ (quotient-is (c .before))
+returns c = toZ-ofZ (record { sfits = c .minus .ok }) ∙ c .minus .ensures ∙ ap negℤ (divided (c .before) .is)
 
 pub floor-quotient-spec : {M : Type 1} → statement M
 floor-quotient-spec =
     tie.close
-    (tie.spec
-    add-y
-    mul-y
-    shared-slice-copy-out-y
-    add-z
-    mul-z
-    shared-slice-copy-out-z
-    floor-requires
-    minus-requires
-    returns)
+    (tie.spec add-y mul-y shared-slice-copy-out-y add-z mul-z shared-slice-copy-out-z floor-requires minus-requires returns)
