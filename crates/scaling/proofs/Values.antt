@@ -1,19 +1,19 @@
 -- Single values: what is stored, the floored quotient by signs, and a quotient of two entries that can be negated.
 use mathlib.Core.Path.{_≡_, refl, ap, ap₂, _∙_}
 use mathlib.Core.Bool.{Bool, true, false, cond}
-use Prim.Native.Nat.{ℕ, zero, suc, _/_, _≤_}
+use Prim.Native.Nat.{ℕ, zero, suc, _/_, _^_, _<_, _≤_}
 use native.Mathlib.Nat.{zero-div}
 use native.Mathlib.Omega.{arith}
 use lib.IntN.{ℤ, pos, negsuc, natAbs, negℤ, _-ℤ_}
-use lib.Signed.{_≤ℤ_, _<ℤ_, quotZ}
+use lib.Signed.{_≤ℤ_, _<ℤ_, mag, quotZ}
 use mir.Syntax.{w32, w64}
-use mir.Val.{SFits, toZ, ofZ}
+use mir.Val.{toZ, ofZ, hbits}
 use mir.Facts.{toZ-ofZ}
 use Rattle.whole.specs.Division.{floorZ}
 use Rattle.whole.proofs.Order.{zarith, -is}
 use Rattle.whole.proofs.Signs.{less-pos, less-neg}
 use Rattle.rules.specs.Limits.{M, beyond}
-use Rattle.checks.proofs.Values.{abs32, within, not-beyond}
+use Rattle.checks.proofs.Values.{abs32, held, within, not-beyond}
 use Rattle.scaling.specs.Strided.{keep}
 
 -- ---- what is stored
@@ -60,8 +60,8 @@ pub record Quotient (div : ℤ → ℤ → ℤ) (a b z : ℤ) : Type 0 where
   pub is : toZ w64 (ofZ w64 z) ≡ div a b
   pub small : natAbs (toZ w64 (ofZ w64 z)) ≤ 2147483648
 
-pub quotient-of : {div : ℤ → ℤ → ℤ} → ((a b : ℤ) → natAbs (div a b) ≤ natAbs a) → (a b : ℤ) {z : ℤ} → SFits w32 a → SFits w32 b → SFits w64 z
-    → z ≡ div (toZ w32 (ofZ w32 a)) (toZ w32 (ofZ w32 b)) → Quotient div a b z
+pub quotient-of : {div : ℤ → ℤ → ℤ} → ((a b : ℤ) → natAbs (div a b) ≤ natAbs a) → (a b : ℤ) {z : ℤ}
+    → mag a < 2 ^ hbits w32 → mag b < 2 ^ hbits w32 → mag z < 2 ^ hbits w64 → z ≡ div (toZ w32 (ofZ w32 a)) (toZ w32 (ofZ w32 b)) → Quotient div a b z
 quotient-of {div} le a b {z} f g h e =
-    let i : toZ w64 (ofZ w64 z) ≡ div a b = toZ-ofZ h ∙ e ∙ ap₂ div (toZ-ofZ f) (toZ-ofZ g) in
-    record { is = i; small = rw i (omega (arith, le a b, abs32 a f)) }
+    let i : toZ w64 (ofZ w64 z) ≡ div a b = toZ-ofZ (record { sfits = h }) ∙ e ∙ ap₂ div (held a f) (held b g) in
+    record { is = i; small = rw i (omega (arith, le a b, abs32 a (record { sfits = f }))) }

@@ -1,6 +1,6 @@
 // A problem's start, and the whole run. The problem has a row for each modulus.
 ghost use mathlib.Core.Path.{_≡_};
-ghost use Prim.Native.Nat.{_<_, _≤_, _+_, _*_};
+ghost use Prim.Native.Nat.{_≤_};
 ghost use lib.ListN.{length};
 ghost use Rattle.rules.specs.Limits.{roomH, roomV};
 ghost use Rattle.rules.specs.Problem.{C, WellFormed};

@@ -34,7 +34,7 @@ floor-requires c κs = search needs
 
 divided : (c : tie.After-floor)
     → let a = c .before .before .before .args in Quotient floorZ (nth (a .x .now) (a .c + a .base)) (nth (a .x .now) (a .b + a .base)) (c .floor .result)
-divided c = quotient-of floor-le _ _ (record { sfits = c .before .before .y .given }) (record { sfits = c .before .z .given }) (record { sfits = c .floor .ok }) (c .floor .ensures)
+divided c = quotient-of floor-le _ _ (c .before .before .y .given) (c .before .z .given) (c .floor .ok) (c .floor .ensures)
 
 minus-requires : tie.Need-minus-requires
 minus-requires c κs = divided c .small

@@ -1,4 +1,4 @@
--- `work::negative` meets its contract.
+-- `work::negative` meets its contract: what `is_negative` says of the entry is the test.
 use mathlib.Core.Path.{ap, _∙_}
 use Prim.Native.Nat.{_+_}
 use lib.IntN.{ℤ, pos}

@@ -1,4 +1,4 @@
--- `work::pivot_row` meets its contract: nothing was found from k up.
+-- `work::pivot_row` meets its contract: at each turn the entries from row k down are 0, and the first that is not ends the loop.
 use mathlib.Core.Path.{_≡_, refl, sym, ap, _∙_}
 use mathlib.Core.Bool.{Bool, not}
 use mathlib.Core.List.{List}

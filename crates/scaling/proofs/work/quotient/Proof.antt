@@ -34,7 +34,7 @@ cut-requires c κs = search needs
 
 divided : (c : tie.After-cut)
     → let a = c .before .before .before .args in Quotient quotZ (nth (a .x .now) (a .j + a .base)) (nth (a .x .now) (a .p + a .base)) (c .cut .result)
-divided c = quotient-of quot-le _ _ (record { sfits = c .before .before .a .given }) (record { sfits = c .before .b .given }) (record { sfits = c .cut .ok }) (c .cut .ensures)
+divided c = quotient-of quot-le _ _ (c .before .before .a .given) (c .before .b .given) (c .cut .ok) (c .cut .ensures)
 
 minus-requires : tie.Need-minus-requires
 minus-requires c κs = divided c .small

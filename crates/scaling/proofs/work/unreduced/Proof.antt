@@ -1,4 +1,4 @@
--- `work::unreduced` meets its contract: the columns below c are in range.
+-- `work::unreduced` meets its contract: at each turn the columns from lo to c are in range, and the first that is not ends the loop.
 use mathlib.Core.Path.{_≡_, sym, ap, _∙_}
 use mathlib.Core.Bool.{true}
 use Prim.Native.Nat.{ℕ, _-_, _≤_, _<_}
