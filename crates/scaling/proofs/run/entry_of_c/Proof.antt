@@ -83,16 +83,5 @@ returns-3 c =
 pub entry-of-c-spec : {M : Type 1} → statement M
 entry-of-c-spec =
     tie.close
-    (tie.spec
-    mul-k
-    element-copy-out-k
-    mul-opposite
-    shared-slice-copy-out-opposite
-    opposite-requires
-    returns
-    returns-2
-    mul-result
-    add-result
-    mul-result-2
-    shared-slice-copy-out-result
-    returns-3)
+    (tie.spec mul-k element-copy-out-k mul-opposite shared-slice-copy-out-opposite opposite-requires returns returns-2 mul-result add-result
+    mul-result-2 shared-slice-copy-out-result returns-3)

@@ -94,18 +94,5 @@ returns c =
 pub fill-c-spec : {M : Type 1} → statement M
 fill-c-spec =
     tie.close
-    (tie.spec
-    Inv-loop
-    μ-loop
-    add-cols
-    loop-holds
-    mul-loop
-    div-entry-of-c
-    rem-entry-of-c
-    entry-of-c-requires
-    mul-x
-    element-set-from-x
-    add-k
-    loop-less
-    loop-again
-    returns)
+    (tie.spec Inv-loop μ-loop add-cols loop-holds mul-loop div-entry-of-c rem-entry-of-c entry-of-c-requires mul-x element-set-from-x add-k loop-less
+    loop-again returns)

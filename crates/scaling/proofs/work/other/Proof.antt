@@ -84,16 +84,5 @@ returns-2 c =
 pub other-spec : {M : Type 1} → statement M
 other-spec =
     tie.close
-    (tie.spec
-    Inv-loop
-    μ-loop
-    loop-holds
-    add-is-zero
-    mul-is-zero
-    shared-slice-copy-out-is-zero
-    is-zero-requires
-    returns
-    add-j
-    loop-less
-    loop-again
+    (tie.spec Inv-loop μ-loop loop-holds add-is-zero mul-is-zero shared-slice-copy-out-is-zero is-zero-requires returns add-j loop-less loop-again
     returns-2)

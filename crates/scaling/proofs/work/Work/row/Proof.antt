@@ -25,7 +25,7 @@ use Rattle.scaling.proofs.Rowing.{row-p, row-begun, row-refused, row-pi
 use Rattle.scaling.proofs.work.Work.row.Statement.{statement}
 use Rattle.scaling.proofs.work.Work.row.Tie as tie
 
--- ---- the points of the walk: where (A), the swap and the sign are done, and the start of each
+-- ---- the points of the walk: the start; where (A), the swap and the sign are done, from the table read next; and the start, from each of them
 abbrev entry : tie.After-table → tie.Start
 entry c = let self = c .before .before .before in self .before
 
@@ -84,10 +84,7 @@ swept c =
     (λ w. rw (w .4) (
       w .2 .ensures,
       w .3 .left,
-      long-1 (record {
-        before = record { before = record { before = o; if1 = w .0 }; quotient = w .1 };
-        eliminate = w .2;
-      }),
+      long-1 (record { before = record { before = record { before = o; if1 = w .0 }; quotient = w .1 }; eliminate = w .2 }),
     ))
     (λ w. rw (w .1) (begun-done (s .pre .0) (row-begun (s .pre .0) (s .pre .1)) (row-1 (o .before)) (o .other .ensures) (w .0 .left), s .pre .0 .clear, long s))
     (c .if1 .came)
@@ -189,10 +186,7 @@ signed c =
       negative-same (row-3 t) b (column s) (sym (g .negative .ensures) ∙ w .0 .taken) (w .1 .ensures),
       long-4 (record { before = record { before = g; if4 = w .0 }; negate = w .1 }),
     ))
-    (λ w. rw (w .1) (
-      positive-same (row-3 t) b (column s) (brought j .0 .fine) (sym (g .negative .ensures) ∙ w .0 .left),
-      brought j .1,
-    ))
+    (λ w. rw (w .1) (positive-same (row-3 t) b (column s) (brought j .0 .fine) (sym (g .negative .ensures) ∙ w .0 .left), brought j .1))
     (c .if4 .came)
 
 -- ---- the columns after it
@@ -212,13 +206,9 @@ unreduced-requires c κs = let j = signed-at c in pivot-divisors (row-4 c) (sign
 
 reduce-all-requires : tie.Need-reduce-all-requires
 reduce-all-requires c κs =
-    let u = c .before in let j = signed-at (u .before) in let s = entry-sign j in (
-      signed j .0 .fine,
-      (
-        pivot-4 j,
-        record { upto = omega arith; apart = λ d x y e. omega (arith, u .unreduced .ensures .low (s .pre .1 .a-in), row-p (s .pre .0) (s .pre .1)) },
-      ),
-    )
+    let u = c .before in let j = signed-at (u .before) in let s = entry-sign j in
+    let low = u .unreduced .ensures .low (s .pre .1 .a-in) in
+    (signed j .0 .fine, (pivot-4 j, record { upto = omega arith; apart = λ d x y e. omega (arith, low, row-p (s .pre .0) (s .pre .1)) }))
 
 done : (c : tie.After-unreduced) → let j = signed-at (c .before) in let s = entry-sign j in let a = s .args in (r : Work)
     → Reduced-from s (a .a) (j .if4 .self) r → RowDone (a .stage2) (a .m) (a .cols) (a .k) (a .lo) (a .a) (a .t1) r
