@@ -5,9 +5,13 @@ use mathlib.Core.List.{List, _++_}
 use Prim.Native.Nat.{ℕ, zero, suc, _+_, _*_, _<_, _≤_}
 use native.Mathlib.Nat.{mul-le-mul, add-zero}
 use native.Mathlib.Omega.{arith}
+use borrow.Author.Needs.{needs}
+use denote.Laws.{Is}
+use denote.Struct.Declared.{row}
 use lib.ListN.{length, getD}
 use lib.Seq.{ext-getD}
 use lib.IntN.{ℤ, natAbs}
+use mir.Val.{Val}
 use Rattle.whole.specs.Lists.{nth}
 use Rattle.rules.specs.Steps.{Line, State, blank, line, get, getW, values, anyBeyond}
 use Rattle.rules.specs.Stages.{size}
@@ -16,6 +20,7 @@ use Rattle.scaling.specs.declared.work.Work.{Work}
 use Rattle.scaling.specs.Strided.{Within}
 use Rattle.scaling.specs.WorkState.{lineOf, linesFrom, stateOf, Fine, tableFor, entriesFor, heightFor}
 use Rattle.scaling.specs.Scan.{sizes}
+use Rattle.scaling.proofs.work.Work.{the-type}
 use Rattle.scaling.proofs.Places.{cell}
 use Rattle.scaling.proofs.StridedLines.{pick-nth, pick-small}
 
@@ -99,6 +104,10 @@ pub record Long (s : Work) : Type 0 where
   pub t : length (s .t) ≡ 192
   pub v : length (s .v) ≡ 576
   pub w : length (s .w) ≡ 576
+
+-- so they are in every state that is given (`.good` at the start) or answered (a call's `.ok`)
+pub long-of : {s : Work} {vs : List Val} → Is (row the-type) s vs → Long s
+long-of is = record { t = search needs; v = search needs; w = search needs }
 
 -- where row c of W begins
 pub row-start : {m n : ℕ} {s : Work} → Fine m n s → (c : ℕ) → c < n → c * n < 576

@@ -11,7 +11,7 @@ use mir.Syntax.{w64}
 use mir.Val.{toZ, ofZ}
 use mir.Facts.{toZ-ofZ}
 use Rattle.scaling.specs.Rows.{left, Ready}
-use Rattle.scaling.proofs.State.{Long}
+use Rattle.scaling.proofs.State.{long-of}
 use Rattle.scaling.proofs.TableRow.{RowOfTable, row-of-table, row-short}
 use Rattle.scaling.proofs.Repeating.{GoesOn, two-columns, lo-le-a, q-fits, eliminated-here, goes-on}
 use Rattle.scaling.proofs.work.Work.eliminate.Reads as eliminate
@@ -59,9 +59,6 @@ module _ (t : ℕ) where
   ready : (c : lts.Start (claims t) (at t) eliminate.Post) → let a = c .args in Ready (a .stage2) (a .m) (a .cols) (a .row) (a .lo) (a .a) (a .p) (a .j) (toZ w64 (ofZ w64 (a .q))) (a .self)
   ready c = rw (toZ-ofZ (c .fits .q)) (c .pre .1 .1)
 
-  long : (c : lts.After-add (claims t) (at t) eliminate.Post) → Long (c .add .result)
-  long c = record { t = search needs; v = search needs; w = search needs }
-
   -- where the addition is done, from the table read after it
   abbrev added : lts.After-table (claims t) (at t) eliminate.Post → lts.After-add (claims t) (at t) eliminate.Post
   added c = let work = c .before .before .before in work .before
@@ -71,7 +68,7 @@ module _ (t : ℕ) where
       → let d = added c in let a = d .before .args in RowOfTable (a .stage2) (a .m) (a .cols) (a .row) (d .add .result) (now (c .table .result))
   table-row c =
       let d = added c in let s = d .before in
-      row-of-table (s .args .stage2) (s .pre .1 .0) (s .pre .1 .1 .row-in) (long d) (c .table .ensures)
+      row-of-table (s .args .stage2) (s .pre .1 .0) (s .pre .1 .1 .row-in) (long-of (d .add .ok)) (c .table .ensures)
 
   goes : (c : lts.Else1 (claims t) (at t) eliminate.Post)
       → let o = c .before .before in let w = o .before .before in let d = added w in let a = d .before .args in

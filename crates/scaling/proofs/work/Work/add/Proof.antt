@@ -11,14 +11,14 @@ use mir.Val.{toZ, ofZ}
 use mir.Facts.{toZ-ofZ}
 use Rattle.whole.proofs.Order.{abs-neg}
 use Rattle.scaling.specs.Strided.{Added}
-use Rattle.scaling.proofs.State.{Long, fewer, t-in, v-in, w-in, row-start}
+use Rattle.scaling.proofs.State.{Long, long-of, fewer, t-in, v-in, w-in, row-start}
 use Rattle.scaling.proofs.Steps.{add-tracks}
 use Rattle.scaling.proofs.work.Work.add.Statement.{statement}
 use Rattle.scaling.proofs.work.Work.add.Tie as tie
 
 module _ (s : tie.Start) where
   long : Long (s .args .t1)
-  long = record { t = search needs; v = search needs; w = search needs }
+  long = long-of (s .good .0)
 
   q-is : toZ w64 (ofZ w64 (s .args .q)) ≡ s .args .q
   q-is = toZ-ofZ (s .fits .q)

@@ -2,13 +2,13 @@
 use mathlib.Core.Path.{refl}
 use native.Mathlib.Omega.{arith}
 use borrow.Author.Needs.{needs}
-use Rattle.scaling.proofs.State.{Long, fewer, t-in, v-in, w-in, row-start}
+use Rattle.scaling.proofs.State.{Long, long-of, fewer, t-in, v-in, w-in, row-start}
 use Rattle.scaling.proofs.Steps.{negate-same}
 use Rattle.scaling.proofs.work.Work.negate.Statement.{statement}
 use Rattle.scaling.proofs.work.Work.negate.Tie as tie
 
 long : (s : tie.Start) → Long (s .args .t1)
-long s = record { t = search needs; v = search needs; w = search needs }
+long s = long-of (s .good .0)
 
 -- the start, from where T and V are done
 abbrev entry : tie.After-negate-v → tie.Start

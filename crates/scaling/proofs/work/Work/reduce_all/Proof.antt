@@ -16,7 +16,7 @@ use Rattle.whole.specs.Lists.{nth}
 use borrow.Author.Tests.{not-true, not-false}
 use Rattle.scaling.specs.declared.work.Work.{Work}
 use Rattle.scaling.specs.Rows.{Pivot}
-use Rattle.scaling.proofs.State.{Long}
+use Rattle.scaling.proofs.State.{long-of}
 use Rattle.scaling.proofs.TableRow.{RowOfTable, row-of-table, row-short}
 use Rattle.scaling.proofs.Reducing.{Reduced, pivot-divides, q-small, reduced-already, reduced-now}
 use Rattle.scaling.proofs.Settling.{Reducing, reducing-start, reducing-pivot, reducing-next, reducing-over, reducing-end}
@@ -30,7 +30,7 @@ abbrev μ-loop : tie.MeasureT-loop
 μ-loop m n stage2 row b lo hi self₀ c₀ self c = hi - c
 
 loop-holds : tie.Need-loop-holds Inv-loop μ-loop
-loop-holds c = reducing-start (c .pre .0) (record { t = search needs; v = search needs; w = search needs }) (c .args .lo) (c .args .hi)
+loop-holds c = reducing-start (c .pre .0) (long-of (c .good .0)) (c .args .lo) (c .args .hi)
 
 table-requires : tie.Need-table-requires Inv-loop μ-loop
 table-requires c κs = search needs
@@ -106,9 +106,6 @@ now-added c =
     reduced-now (table-row (q .before)) (l .inv .fine) (pivot i) (l .c) (column-in i) _ (q-is q)
     (sym (n .is-none .ensures) ∙ not-true _ (c .before .if1 .taken)) (apart i) (c .add .ensures)
 
-long : (c : tie.After-add Inv-loop μ-loop) → Long (c .add .result)
-long c = record { t = search needs; v = search needs; w = search needs }
-
 returns : tie.Need-returns Inv-loop μ-loop
 returns c =
     let n = c .before .before .before in let i = turn (n .before .before) in let s = entry i in
@@ -124,8 +121,8 @@ loop-again : tie.Need-loop-again Inv-loop μ-loop
 loop-again c =
     let i = turn (c .before .before .before) in let l = head i .loop in let s = entry i in
     ⊎-elim
-    (λ w. let added : tie.After-add Inv-loop μ-loop = record { before = record { before = c .before; if1 = w .0 }; add = w .1 } in
-    rw (w .3) (reducing-next (s .pre .1 .0) (s .pre .1 .1) (l .inv) (i .loop-test .taken) (now-added added) (w .2 .left) (long added)))
+    (λ w. rw (w .3) (reducing-next (s .pre .1 .0) (s .pre .1 .1) (l .inv) (i .loop-test .taken)
+    (now-added (record { before = record { before = c .before; if1 = w .0 }; add = w .1 })) (w .2 .left) (long-of (w .1 .ok))))
     (λ w. rw (w .1) (reducing-next (s .pre .1 .0) (s .pre .1 .1) (l .inv) (i .loop-test .taken)
     (already (c .before) (not-false _ (w .0 .left))) (l .inv .fine .clear) (l .inv .long)))
     (c .if1 .came)

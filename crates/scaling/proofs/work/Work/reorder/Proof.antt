@@ -5,14 +5,14 @@ use native.Mathlib.Nat.{mul-le-mul, le-refl}
 use native.Mathlib.Omega.{arith}
 use borrow.Author.Needs.{needs}
 use Rattle.scaling.proofs.Places.{cell}
-use Rattle.scaling.proofs.State.{Long, square, t-room, v-room, w-room}
+use Rattle.scaling.proofs.State.{Long, long-of, square, t-room, v-room, w-room}
 use Rattle.scaling.proofs.Steps.{reorder-same}
 use Rattle.scaling.proofs.work.Work.reorder.Statement.{statement}
 use Rattle.scaling.proofs.work.Work.reorder.Tie as tie
 
 module _ (s : tie.Start) where
   long : Long (s .args .t1)
-  long = record { t = search needs; v = search needs; w = search needs }
+  long = long-of (s .good .0)
 
   -- the rows of W up to a are some of all
   part : s .args .a * s .args .cols ≤ s .args .cols * s .args .cols

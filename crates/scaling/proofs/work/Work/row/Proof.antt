@@ -16,7 +16,7 @@ use Rattle.rules.specs.Stages.{bring, makePositive}
 use Rattle.scaling.specs.declared.work.Work.{Work}
 use Rattle.scaling.specs.WorkState.{stateOf, Same, tableFor, entriesFor}
 use Rattle.scaling.specs.Rows.{Eliminated, Pivot, AllReduced, RowDone}
-use Rattle.scaling.proofs.State.{Long}
+use Rattle.scaling.proofs.State.{Long, long-of}
 use Rattle.scaling.proofs.TableRow.{RowOfTable, row-of-table, row-short}
 use Rattle.scaling.proofs.Repeating.{begun-done, begun-divides, begun-ready}
 use Rattle.scaling.proofs.Reducing.{bring-same, bring-swaps, negative-same, positive-same}
@@ -61,19 +61,13 @@ module _ (s : tie.Start) where
   row-read : {w : Work} {xs : List ℤ} → Long w → xs ≡ entriesFor (s .args .stage2) (w .t) (w .v) → Row w xs
   row-read = row-of-table (s .args .stage2) (s .pre .0) (s .pre .1 .row-in)
 
-  long : Long (s .args .t1)
-  long = record { t = search needs; v = search needs; w = search needs }
-
   -- b is a column
   column : s .args .a - 1 < s .args .cols
   column = omega (arith, row-p (s .pre .0) (s .pre .1), s .pre .1 .a-in)
 
 -- ---- (A)
 row-1 : (c : tie.After-table) → Row (entry c) (entry c .args .t1) (now (c .table .result))
-row-1 c = row-read (entry c) (long (entry c)) (c .table .ensures)
-
-long-1 : (c : tie.After-eliminate) → Long (c .eliminate .result)
-long-1 c = record { t = search needs; v = search needs; w = search needs }
+row-1 c = row-read (entry c) (long-of (entry c .good .0)) (c .table .ensures)
 
 swept : (c : tie.Joined1)
     → let a = entry-A c .args in let w = c .if1 .self in
@@ -81,12 +75,8 @@ swept : (c : tie.Joined1)
 swept c =
     let o = c .before in let s = entry-A c in
     ⊎-elim
-    (λ w. rw (w .4) (
-      w .2 .ensures,
-      w .3 .left,
-      long-1 (record { before = record { before = record { before = o; if1 = w .0 }; quotient = w .1 }; eliminate = w .2 }),
-    ))
-    (λ w. rw (w .1) (begun-done (s .pre .0) (row-begun (s .pre .0) (s .pre .1)) (row-1 (o .before)) (o .other .ensures) (w .0 .left), s .pre .0 .clear, long s))
+    (λ w. rw (w .4) (w .2 .ensures, w .3 .left, long-of (w .2 .ok)))
+    (λ w. rw (w .1) (begun-done (s .pre .0) (row-begun (s .pre .0) (s .pre .1)) (row-1 (o .before)) (o .other .ensures) (w .0 .left), s .pre .0 .clear, long-of (s .good .0)))
     (c .if1 .came)
 
 mul-base : tie.Need-mul-base
@@ -141,9 +131,6 @@ swap-requires c κs =
       record { i-in = p .b-in; j-in = column (entry-A j); apart = c .if3 .taken; room = omega (arith, p .room) },
     )
 
-long-3 : (c : tie.After-swap) → Long (c .swap .result)
-long-3 c = record { t = search needs; v = search needs; w = search needs }
-
 brought : (c : tie.Joined3)
     → let o = c .before in let j = swept-at (o .before) in let a = entry-A j .args in
     Same (a .m) (a .cols) (c .if3 .self) (bring (o .other2 .result) (a .a - 1) (stateOf (a .m) (a .cols) (j .if1 .self))) × Long (c .if3 .self)
@@ -151,7 +138,7 @@ brought c =
     let o = c .before in let j = swept-at (o .before) in let a = entry-A j .args in
     ⊎-elim
     (λ w. rw (w .2, bring-swaps (o .other2 .result) (a .a - 1) (stateOf (a .m) (a .cols) (j .if1 .self)) (w .0 .taken))
-    (w .1 .ensures, long-3 (record { before = record { before = o; if3 = w .0 }; swap = w .1 })))
+    (w .1 .ensures, long-of (w .1 .ok)))
     (λ w. rw (w .1) (bring-same (swept j .0 .tracks .fine (swept j .1)) (o .other2 .result) (a .a - 1) (w .0 .left), swept j .2))
     (c .if3 .came)
 
@@ -173,19 +160,13 @@ negate-requires c κs =
     let j = brought-at (c .before .before) in
     (brought j .0 .fine, record { i-in = column (entry-swap j); room = omega (arith, pivot-3 j .room) })
 
-long-4 : (c : tie.After-negate) → Long (c .negate .result)
-long-4 c = record { t = search needs; v = search needs; w = search needs }
-
 signed : (c : tie.Joined4)
     → let j = brought-at (c .before .before) in let a = entry-swap j .args in
     Same (a .m) (a .cols) (c .if4 .self) (makePositive (tableFor (a .stage2)) (a .k) (a .a - 1) (stateOf (a .m) (a .cols) (j .if3 .self))) × Long (c .if4 .self)
 signed c =
     let g = c .before in let t = g .before in let j = brought-at t in let s = entry-swap j in let b = s .args .a - 1 in
     ⊎-elim
-    (λ w. rw (w .2) (
-      negative-same (row-3 t) b (column s) (sym (g .negative .ensures) ∙ w .0 .taken) (w .1 .ensures),
-      long-4 (record { before = record { before = g; if4 = w .0 }; negate = w .1 }),
-    ))
+    (λ w. rw (w .2) (negative-same (row-3 t) b (column s) (sym (g .negative .ensures) ∙ w .0 .taken) (w .1 .ensures), long-of (w .1 .ok)))
     (λ w. rw (w .1) (positive-same (row-3 t) b (column s) (brought j .0 .fine) (sym (g .negative .ensures) ∙ w .0 .left), brought j .1))
     (c .if4 .came)
 

@@ -5,7 +5,7 @@ use native.Mathlib.Omega.{arith}
 use borrow.Author.Needs.{needs}
 use Rattle.scaling.specs.WorkState.{entriesFor}
 use Rattle.scaling.specs.Scan.{sizes}
-use Rattle.scaling.proofs.State.{Long}
+use Rattle.scaling.proofs.State.{long-of}
 use Rattle.scaling.proofs.TableRow.{row-of-table, row-short}
 use Rattle.scaling.proofs.RowScan.{Best, best-start, best-step}
 use Rattle.scaling.proofs.AllRows.{Rowed, rowed-start, rowed-end, row-there, rowed-pass, rowed-begun, some-left, rowed-next, rowed-over}
@@ -24,18 +24,12 @@ Inv-rows m n stage2 lo height self₀ a₀ k₀ self a k = Rowed stage2 m n lo h
 abbrev μ-rows : tie.MeasureT-rows
 μ-rows m n stage2 lo height self₀ a₀ k₀ self a k = k
 
-long : (c : tie.Start Inv-loop μ-loop Inv-rows μ-rows) → Long (c .args .t1)
-long c = record { t = search needs; v = search needs; w = search needs }
-
-long-then : (c : tie.After-row Inv-loop μ-loop Inv-rows μ-rows) → Long (c .row .result)
-long-then c = record { t = search needs; v = search needs; w = search needs }
-
 -- in the scan of a row: where it goes on, from the table read there
 abbrev scanning : tie.After-table Inv-loop μ-loop Inv-rows μ-rows → tie.Else1 Inv-loop μ-loop Inv-rows μ-rows
 scanning c = let self = c .before .before .before in self .before
 
 rows-holds : tie.Need-rows-holds Inv-loop μ-loop Inv-rows μ-rows
-rows-holds c = rowed-start (c .pre .0) (long c) (c .pre .1)
+rows-holds c = rowed-start (c .pre .0) (long-of (c .good .0)) (c .pre .1)
 
 sub-k : tie.Need-sub-k Inv-loop μ-loop Inv-rows μ-rows
 sub-k c = omega (arith, c .rows-test .taken)
@@ -107,7 +101,7 @@ rows-again-2 : tie.Need-rows-again-2 Inv-loop μ-loop Inv-rows μ-rows
 rows-again-2 c =
     let e = c .before .before in let l = e .before .before in let i = l .before in
     rowed-next (i .before .before .pre .1) (i .before .rows .inv) (i .rows-test .taken) (l .loop .inv) (e .before .if1 .taken) (e .if2 .left)
-    (c .before .row .ensures) (long-then (c .before)) (c .if3 .left)
+    (c .before .row .ensures) (long-of (c .before .row .ok)) (c .if3 .left)
 
 returns-2 : tie.Need-returns-2 Inv-loop μ-loop Inv-rows μ-rows
 returns-2 c = rowed-end (c .before .before .pre .1) (c .before .rows .inv) (omega (arith, c .rows-test .left))
