@@ -3,7 +3,6 @@ use mathlib.Core.Path.{refl}
 use Prim.Native.Nat.{_*_, _≤_}
 use native.Mathlib.Nat.{mul-le-mul, le-refl}
 use native.Mathlib.Omega.{arith}
-use borrow.Author.Needs.{needs}
 use Rattle.scaling.proofs.Places.{cell}
 use Rattle.scaling.proofs.State.{Long, long-of, square, t-room, v-room, w-room}
 use Rattle.scaling.proofs.Steps.{reorder-same}
