@@ -4,12 +4,13 @@ use mathlib.Core.Bool.{Bool, true, false}
 use mathlib.Core.List.{List, [], _∷_, _++_}
 use Prim.Native.Nat.{ℕ, suc, _+_, _≤_, _<_, min}
 use native.Mathlib.Omega.{arith}
-use native.Mathlib.Decide.{decLt, decLe}
+use native.Mathlib.Decide.{decLe}
 use native.Mathlib.Nat.{add-zero, zero-add}
-use lib.ListN.{length, getD, take, set, replicate, length-set, length-replicate, getD-replicate, length-append, List·getD-append, List·getD-eq-default}
+use lib.ListN.{length, getD, take, set, replicate, length-set, length-append, List·getD-append}
 use lib.Seq.{take-suc, take-all, take-length, length-take-le, getD-set-same, getD-set-other, getD-append-seam}
 use lib.IntN.{ℤ, pos}
 use Rattle.whole.specs.Lists.{nth}
+use Rattle.whole.proofs.Lists.{nth-replicate}
 use Rattle.whole.proofs.Tests.{Test, pass, fail, lt?}
 use Rattle.rules.specs.Limits.{isZero}
 use Rattle.rules.specs.Problem.{modulusRowsFrom}
@@ -33,14 +34,7 @@ rows-listed k (x ∷ xs) p e = go (isZero x) (rows-listed (suc k) xs p e)
     go true h = let z : k + suc (length xs) ≡ suc k + length xs = omega arith in rw z h
     go false h = let z : k + suc (length xs) ≡ suc k + length xs = omega arith in rw z (ap (λ (l : List ℕ). k ∷ l) h)
 
--- ---- zeros, and the first eight
-zero-at : (n c : ℕ) → _≡_ {A = ℕ} (getD (replicate n 0) c 0) 0
-zero-at n c = go (decLt c n)
-  where
-    go : Dec (c < n) → _≡_ {A = ℕ} (getD (replicate n 0) c 0) 0
-    go (yes h) = getD-replicate n c 0 0 h
-    go (no h) = List·getD-eq-default (replicate n 0) 0 (omega (arith, length-replicate {A = ℕ} n 0))
-
+-- ---- the first eight
 take-min : (n : ℕ) (l : List ℤ) → take (min n (length l)) l ≡ take n l
 take-min n l = go (decLe n (length l))
   where
@@ -63,7 +57,7 @@ pub record Listed (moduli : List ℤ) (i : ℕ) (q : ModulusRows) : Type 0 where
 
 pub listed-none : (moduli : List ℤ) → Listed moduli 0 (record { rows = replicate 8 0; s = 0 })
 unfolding modulusRowsFrom
-listed-none moduli = record { count = refl; few = omega arith; long = refl; rows = λ c h. absurd (omega arith); rest = λ c h. zero-at 8 c }
+listed-none moduli = record { count = refl; few = omega arith; long = refl; rows = λ c h. absurd (omega arith); rest = λ c h. nth-replicate 8 0 c }
 
 module _ {moduli : List ℤ} {i : ℕ} {q : ModulusRows} (l : Listed moduli i q) where
   -- all of the first eight

@@ -9,6 +9,7 @@ use lib.ListN.{length, getD, replicate, length-replicate}
 use lib.IntN.{ℤ, pos}
 use Rattle.whole.specs.Lists.{nth}
 use Rattle.whole.specs.Matrix.{Matrix, δ}
+use Rattle.whole.proofs.Lists.{nth-replicate}
 use Rattle.whole.proofs.Sum.{δ-sym}
 use Rattle.whole.proofs.Matrix.{one-mul, mul-one}
 use Rattle.whole.proofs.Columns.{kept-same}
@@ -18,9 +19,7 @@ use Rattle.theory.proofs.Lines.{Shape}
 use Rattle.theory.proofs.Equations.{Equations}
 
 pub nth-zeros : (n r : ℕ) → nth (replicate n (pos 0)) r ≡ pos 0
-nth-zeros zero r = refl
-nth-zeros (suc n) zero = refl
-nth-zeros (suc n) (suc r) = nth-zeros n r
+nth-zeros n r = nth-replicate n (pos 0) r
 
 pub nth-unit : (n i r : ℕ) → i < n → nth (unit n i) r ≡ δ i r
 nth-unit zero i r h = absurd (omega arith)

@@ -9,7 +9,7 @@ use Prim.Native.Nat.{ℕ, zero, suc, _+_, _*_, _-_, _/_, _%_, _≤_, _<_}
 use native.Mathlib.Omega.{arith}
 use native.Mathlib.Nat.{div-add-mod', mod-lt, div-lt-iff-lt-mul}
 use lib.Arith.{digits-div, digits-mod}
-use lib.ListN.{length, getD, length-append, List·getD-append}
+use lib.ListN.{length, getD, replicate, length-append, List·getD-append}
 use lib.Seq.{getD-append-add, ext-getD}
 use Rattle.whole.specs.Lists.{tab, join}
 
@@ -25,6 +25,12 @@ nth-tab (suc n) f (suc i) d h = nth-tab n (λ i. f (suc i)) i d (omega arith)
 pub tab-cong {ℓ} : {A : Type ℓ} (n : ℕ) (f g : ℕ → A) → ((i : ℕ) → i < n → f i ≡ g i) → tab n f ≡ tab n g
 tab-cong zero f g h = refl
 tab-cong (suc n) f g h = ap₂ _∷_ (h 0 (omega arith)) (tab-cong n (λ i. f (suc i)) (λ i. g (suc i)) (λ i l. h (suc i) (omega arith)))
+
+-- one value throughout, also as the default
+pub nth-replicate {ℓ} : {A : Type ℓ} (n : ℕ) (a : A) (i : ℕ) → getD (replicate n a) i a ≡ a
+nth-replicate zero a i = refl
+nth-replicate (suc n) a zero = refl
+nth-replicate (suc n) a (suc i) = nth-replicate n a i
 
 -- List·getD-map of lib.ListN, for an index in the list and any two defaults
 pub getD-map {ℓ κ} : {A : Type ℓ} {B : Type κ} (f : A → B) (xs : List A) (i : ℕ) (a : A) (b : B) → i < length xs

@@ -1,16 +1,18 @@
 -- `modulus_rows` meets its contract: after i turns the rows below i that have a modulus are listed.
-use mathlib.Core.Path.{_≡_, sym, _∙_}
+use mathlib.Core.Path.{_≡_, sym, _∙_, ap}
 use mathlib.Core.Logic.{⊎-elim}
-use Prim.Native.Nat.{_≤_, _<_, _-_, min}
+use mathlib.Core.List.{List}
+use Prim.Native.Nat.{ℕ, _≤_, _<_, _-_, min}
 use native.Mathlib.Numerals.{add-one}
 use native.Mathlib.Omega.{arith}
 use borrow.Author.Needs.{needs}
 use lib.ListN.{length}
-use mir.Syntax.{w32}
-use mir.Facts.{toZ-ofZ}
+use lib.IntN.{ℤ}
+use denote.Ref.{now}
 use borrow.Author.Tests.{not-true, not-false}
 use Rattle.whole.specs.Lists.{nth}
 use Rattle.rules.specs.Limits.{isZero}
+use Rattle.checks.proofs.Values.{held}
 use Rattle.checks.proofs.Listing.{Listed, listed-none, listed-all, listed-passed, listed-with}
 use Rattle.checks.proofs.modulus_rows.Statement.{statement}
 use Rattle.checks.proofs.modulus_rows.Tie as tie
@@ -20,6 +22,29 @@ Inv-loop moduli count r₀ i₀ r i = (i ≤ min 8 (length moduli)) × Listed mo
 
 abbrev μ-loop : tie.MeasureT-loop
 μ-loop moduli count r₀ i₀ r i = count - i
+
+-- ---- a turn
+module _ (c : tie.After-is-zero Inv-loop μ-loop) where
+  abbrev turn : tie.In-loop Inv-loop μ-loop
+  turn = c .before .before
+
+  abbrev head : tie.At-loop Inv-loop μ-loop
+  head = turn .before
+
+  abbrev counted : tie.After-at-most-8 Inv-loop μ-loop
+  counted = head .before
+
+  abbrev moduli : List ℤ
+  moduli = now (counted .before .args .moduli)
+
+  abbrev i : ℕ
+  i = head .loop .i
+
+  in-list : i < length moduli
+  in-list = omega (arith, turn .loop-test .taken, counted .at-most-8 .ensures)
+
+  zero-test : c .is-zero .result ≡ isZero (nth moduli i)
+  zero-test = c .is-zero .ensures ∙ ap isZero (held (nth moduli i) (c .before .is-zero-arg .given))
 
 at-most-8-requires : tie.Need-at-most-8-requires Inv-loop μ-loop
 at-most-8-requires c κs = search needs
@@ -45,19 +70,14 @@ add-i c = search needs
 loop-less : tie.Need-loop-less Inv-loop μ-loop
 loop-less c = search needs
 
-zero-test : (c : tie.Joined1 Inv-loop μ-loop)
-    → c .before .is-zero .result ≡ isZero (nth (c .before .before .before .before .before .before .args .moduli .now) (c .before .before .before .before .loop .i))
-zero-test c = rw (toZ-ofZ {w = w32} (record { sfits = c .before .before .is-zero-arg .given })) at (c .before .is-zero .ensures)
-
 loop-again : tie.Need-loop-again Inv-loop μ-loop
 loop-again c =
-    let l = c .before .before .before .before .loop in
-    let s = c .before .before .before .before .before in
-    let h : l .i < length (s .before .args .moduli .now) = omega (arith, c .before .before .before .loop-test .taken, s .at-most-8 .ensures) in (
+    let z = c .before in
+    let l = head z .loop in (
       omega arith,
       rw (add-one (l .i)) (⊎-elim
-          (λ w. rw (w .2) (listed-with (l .inv .1) h (sym (zero-test c) ∙ not-true _ (w .0 .taken)) (omega arith) (w .1 .ensures)))
-          (λ w. rw (w .1) (listed-passed (l .inv .1) h (sym (zero-test c) ∙ not-false _ (w .0 .left))))
+          (λ w. rw (w .2) (listed-with (l .inv .1) (in-list z) (sym (zero-test z) ∙ not-true _ (w .0 .taken)) (omega arith) (w .1 .ensures)))
+          (λ w. rw (w .1) (listed-passed (l .inv .1) (in-list z) (sym (zero-test z) ∙ not-false _ (w .0 .left))))
           (c .if1 .came)),
     )
 

@@ -42,18 +42,27 @@ module _ (c : tie.Start) where
   abbrev from1 : List Check
   from1 = sizesCheck P ∷ from2
 
--- the function's entry, from the way on after each check
+-- the way on after each check: back to that after the check before it, and to the function's entry
+abbrev after1 : tie.Else2 → tie.Else1
+after1 c = c .before .before .before
+
+abbrev after2 : tie.Else3 → tie.Else2
+after2 c = c .before
+
+abbrev after3 : tie.Else4 → tie.Else3
+after3 c = c .before .before
+
 abbrev start1 : tie.Else1 → tie.Start
 start1 c = c .before .before
 
 abbrev start2 : tie.Else2 → tie.Start
-start2 c = start1 (c .before .before .before)
+start2 c = start1 (after1 c)
 
 abbrev start3 : tie.Else3 → tie.Start
-start3 c = start2 (c .before)
+start3 c = start2 (after2 c)
 
 abbrev start4 : tie.Else4 → tie.Start
-start4 c = start3 (c .before .before)
+start4 c = start3 (after3 c)
 
 -- ---- what the tests say
 sizes-test : (c : tie.After-sizes-in-range) → c .sizes-in-range .result ≡ sizesInRange (c .before .args .m) (c .before .args .n)
@@ -71,7 +80,7 @@ inputs-fit c = sym (inputs-test (c .before)) ∙ not-false (c .before .both .res
 few : (c : tie.Else2) → (length (now (start2 c .args .moduli)) ≤ 8) × (length (now (start2 c .args .matrix)) ≤ 128)
 few c =
     let s = start2 c in
-    let z = sizes-passed (s .args .m) (s .args .n) (sizes-in (c .before .before .before)) in
+    let z = sizes-passed (s .args .m) (s .args .n) (sizes-in (after1 c)) in
     let l = lengths-passed (P s) (and-both (problemFits (P s)) (s .args .more) (inputs-fit c) .0) in
     (omega (arith, l .1, z .m-high), omega (arith, l .0, mul-le-mul (z .m-high) (z .n-high)))
 
@@ -83,18 +92,18 @@ module _ {number place : ℕ} where
   past2 : (c : tie.Else2) → Says number place (verdict (from3 (start2 c))) → Says number place (verdict (from1 (start2 c)))
   past2 c x =
       let s = start2 c in
-      past1 (c .before .before .before) (says-next (inputsCheck (inputs s)) (from3 s) (ap unless (inputs-fit c)) x)
+      past1 (after1 c) (says-next (inputsCheck (inputs s)) (from3 s) (ap unless (inputs-fit c)) x)
 
   past3 : (c : tie.Else3) → Says number place (verdict (from4 (start3 c))) → Says number place (verdict (from1 (start3 c)))
   past3 c x =
       let s = start3 c in
-      past2 (c .before) (says-next (outputsCheck (s .args .outputs)) (from4 s) (ap unless (not-false (s .args .outputs) (c .if3 .left))) x)
+      past2 (after2 c) (says-next (outputsCheck (s .args .outputs)) (from4 s) (ap unless (not-false (s .args .outputs) (c .if3 .left))) x)
 
   past4 : (c : tie.Else4) → Says number place (verdict (from5 (start4 c))) → Says number place (verdict (from1 (start4 c)))
   past4 c x =
       let s = start4 c in
       let r = c .before .first-out in
-      past3 (c .before .before) (says-next (moduliCheck (P s)) (from5 s) (r .ensures .miss (omega (arith, r .ensures .upto))) x)
+      past3 (after3 c) (says-next (moduliCheck (P s)) (from5 s) (r .ensures .miss (omega (arith, r .ensures .upto))) x)
 
 -- ---- the needs
 sizes-in-range-requires : tie.Need-sizes-in-range-requires
@@ -134,7 +143,7 @@ first-out-requires : tie.Need-first-out-requires
 first-out-requires c κs = search needs
 
 cast-t14 : tie.Need-cast-t14
-cast-t14 c = omega (arith, few (c .before .before .before) .0)
+cast-t14 c = omega (arith, few (after2 (c .before .before)) .0)
 
 returns-4 : tie.Need-returns-4
 returns-4 c =
@@ -146,7 +155,7 @@ first-out-requires-2 : tie.Need-first-out-requires-2
 first-out-requires-2 c κs = search needs
 
 cast-t15 : tie.Need-cast-t15
-cast-t15 c = omega (arith, few (c .before .before .before .before .before) .1)
+cast-t15 c = omega (arith, few (after2 (after3 (c .before .before))) .1)
 
 returns-5 : tie.Need-returns-5
 returns-5 c =

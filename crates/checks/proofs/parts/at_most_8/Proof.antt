@@ -1,4 +1,4 @@
--- `parts::at_most_8` meets its contract.
+-- `parts::at_most_8` meets its contract: the test says which of the two is the smaller.
 use native.Mathlib.Omega.{arith}
 use Rattle.checks.proofs.parts.at_most_8.Statement.{statement}
 use Rattle.checks.proofs.parts.at_most_8.Tie as tie

@@ -51,12 +51,16 @@ abbrev μ-loop : tie.MeasureT-loop
 abbrev good : tie.Start Inv-loop μ-loop → ℤ → Bool
 good c = limits.within (toZ w32 (ofZ w32 (c .args .lo))) (toZ w32 (ofZ w32 (c .args .hi)))
 
+-- ---- a turn
 module _ (c : tie.After-within Inv-loop μ-loop) where
+  abbrev head : tie.At-loop Inv-loop μ-loop
+  head = c .before .before .before
+
   abbrev entry : tie.Start Inv-loop μ-loop
-  entry = c .before .before .before .before
+  entry = head .before
 
   abbrev number : ℤ
-  number = nth (now (entry .args .xs)) (c .before .before .before .loop .i)
+  number = nth (now (entry .args .xs)) (head .loop .i)
 
   tested : c .within .result ≡ good entry number
   tested = c .within .ensures ∙ ap (good entry) (held number (c .before .within-arg .given))
@@ -76,7 +80,7 @@ within-requires c κs = search needs
 returns : tie.Need-returns Inv-loop μ-loop
 returns c =
     let s = entry (c .before) in
-    let l = c .before .before .before .before .loop in
+    let l = head (c .before) .loop in
     let refused : good s (number (c .before)) ≡ false = sym (tested (c .before)) ∙ not-true (c .before .within .result) (c .if1 .taken) in
     simp (toZ-ofZ (s .fits .lo), toZ-ofZ (s .fits .hi)) at (out-here (good s) (now (s .args .xs)) (l .i) (l .inv .1) (omega arith) refused)
 
@@ -88,7 +92,7 @@ loop-less c = search needs
 
 loop-again : tie.Need-loop-again Inv-loop μ-loop
 loop-again c =
-    let l = c .before .before .before .before .loop in
+    let l = head (c .before) .loop in
     (omega arith, rw add-one (first-more _ 0 (l .i) (omega arith) (l .inv .1) (ap not (sym (tested (c .before))) ∙ c .if1 .left)))
 
 returns-2 : tie.Need-returns-2 Inv-loop μ-loop

@@ -1,4 +1,4 @@
--- `parts::sizes_in_range` meets its contract.
+-- `parts::sizes_in_range` meets its contract: each `both` is the definitions' conjunction.
 use borrow.Author.Needs.{needs}
 use Rattle.checks.proofs.parts.sizes_in_range.Statement.{statement}
 use Rattle.checks.proofs.parts.sizes_in_range.Tie as tie
