@@ -1,11 +1,11 @@
 // The bench's C calls: the build and the translation over bytes, each number in four of them, big-endian two's complement; and every call over numbers
 // as they are.
 ghost use Rattle.rules.specs.Bench.{benchBuildOf, benchTranslateOf};
-ghost use Rattle.rules.specs.Calls.{buildOf, weighOf, translateOf};
+ghost use Rattle.rules.specs.Calls.{buildOf, weighOf};
 ghost use Rattle.rules.specs.Gauges.{lentReadings, gaugeOf, gaugeAnswer};
 ghost use Rattle.checks.specs.Checks.{given};
 ghost use Rattle.scaling.specs.BuildPromise.{Builds};
-ghost use Rattle.formulas.specs.FormulaPromises.{Weighs, Translates, lentFormula};
+ghost use Rattle.formulas.specs.FormulaPromises.{Weighs, Translates, lentTranslation};
 ghost use Rattle.bench.specs.GaugePromise.{Gauges};
 use checks::ROOM_COEFFICIENTS;
 use checks::ROOM_EXPONENTS;
@@ -152,7 +152,8 @@ pub extern "C" fn glaukemis_translate_numbers(
     kept: &mut [i32],
     translated: &mut [i32],
 ) -> TranslateAnswer
-    ensures { λ r. ⌜ Translates (translateOf (given m n (now (matrix .entry)) (now (moduli .entry))) (lentFormula (now (coefficients .entry)) (now (exponents .entry))) (now (kept .entry)) (now (translated .entry))) r (now (kept .exit)) (now (translated .exit)) ⌝ }
+    ensures { λ r. ⌜ Translates (lentTranslation m n (now (matrix .entry)) (now (moduli .entry)) (now (coefficients .entry)) (now (exponents .entry))
+        (now (kept .entry)) (now (translated .entry))) r (now (kept .exit)) (now (translated .exit)) ⌝ }
 {
     formulas::translate(
         m,

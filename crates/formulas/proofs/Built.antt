@@ -5,12 +5,13 @@ use mathlib.Core.List.{List, [], _∷_, _++_}
 use Prim.Native.Nat.{ℕ, zero, suc, _+_, _-_, _<_, _≤_}
 use native.Mathlib.Decide.{decLt}
 use native.Mathlib.Omega.{arith}
-use lib.ListN.{length, drop, replicate, getD-replicate, length-replicate, List·getD-append, List·getD-eq-default}
+use lib.ListN.{length, drop, replicate, List·getD-append}
 use lib.Seq.{getD-drop, getD-append-add}
 use lib.IntN.{ℤ, pos, natAbs}
 use Rattle.whole.specs.Lists.{nth, tab}
 use Rattle.whole.specs.Matrix.{Matrix}
-use Rattle.rules.specs.Limits.{M}
+use Rattle.whole.proofs.Lists.{nth-replicate}
+use Rattle.rules.specs.Limits.{M, roomW}
 use Rattle.rules.specs.Problem.{Problem, N}
 use Rattle.rules.specs.Stages.{run, W}
 use Rattle.rules.specs.Calls.{taken, verdict, rangeCheck, grid, filled, contentsW, checksTo5, problemFits}
@@ -57,11 +58,7 @@ small-filled : (xs ys : List ℤ) → Small xs → Small ys → Small (filled xs
 small-filled xs ys a b = small-append xs (drop (length xs) ys) a (small-drop (length xs) ys b)
 
 pub small-zeros : (n : ℕ) → Small (replicate n (pos 0))
-small-zeros n = record { at = λ i. go i (decLt i n) }
-  where
-    go : (i : ℕ) → Dec (i < n) → natAbs (nth (replicate n (pos 0)) i) ≤ M
-    go i (yes h) = rw (getD-replicate n i (pos 0) (pos 0) h) (omega arith)
-    go i (no h) = rw (List·getD-eq-default (replicate n (pos 0)) (pos 0) {n = i} (omega (arith, length-replicate n (pos 0)))) (omega arith)
+small-zeros n = record { at = λ i. rw (nth-replicate n (pos 0) i) (omega arith) }
 
 -- ---- the build
 module _ {m n : ℕ} {matrix moduli : List ℤ} {terms : ℕ} {es : List ℤ} {outputs : Bool} {c : Refusal}
@@ -75,7 +72,7 @@ module _ {m n : ℕ} {matrix moduli : List ℤ} {terms : ℕ} {es : List ℤ} {o
   range-says =
       subst (Says (r .number) (r .place)) (goes-on (checksTo5 P (problemFits P) true) (rangeCheck (run P) ∷ []) (problem-passed-alone t passed)) (build-says K)
 
-  module _ (e : r .number ≡ 0) (long : length w₁ ≡ 576) (zeros : Small w) where
+  module _ (e : r .number ≡ 0) (long : length w₁ ≡ roomW) (zeros : Small w) where
     as-given : Solved P w₁ (r .rank)
     unfolding contentsW
     as-given =

@@ -15,7 +15,7 @@ use Rattle.whole.proofs.Order as order
 use Rattle.whole.proofs.Sum.{products-size}
 use Rattle.rules.specs.Limits.{M}
 use Rattle.formulas.specs.declared.terms.Exponents.{Exponents}
-use Rattle.formulas.specs.Terms.{Products, RowOfW}
+use Rattle.formulas.specs.Terms.{Products, mostRowTimes, RowOfW}
 use Rattle.checks.proofs.Values.{abs32, fits32, widened, quot-fits, bits-pos}
 
 -- s is the sum of the first j, r is the next, and the sum with it fits
@@ -47,20 +47,20 @@ module _ (z : ℤ) (small : natAbs z ≤ M) where
   narrowed = rw (toZ-ofZ fits) (toZ-ofZ (fits32 z small))
 
 -- what a division of x, which stands as y, by a number of 32 bits asks
-pub divides64 : {y x : ℤ} (p : ℤ) → y ≡ x → natAbs x ≤ 160_000_000 → SFits w32 p → 0 < natAbs p
+pub divides64 : {y x : ℤ} (p : ℤ) → y ≡ x → natAbs x ≤ mostRowTimes → SFits w32 p → 0 < natAbs p
     → (0 < ofZ w64 (toZ w32 (ofZ w32 p))) × SFits w64 (quotZ y (toZ w64 (ofZ w64 (toZ w32 (ofZ w32 p)))))
 divides64 {x = x} p e h f l = (rw (toZ-ofZ f) (bits-pos p (abs32 p f) l), rw (e, widened p f) (quot-fits x p (omega arith)))
 
 -- ---- sizes
 pub dot-small : {a b : List ℤ} {at from count : ℕ} → Products a at b from count → (k : ℕ) → k ≤ count
-    → natAbs (sum k (λ j. nth a (at + j) *ℤ nth b (from + j))) ≤ 160_000_000
+    → natAbs (sum k (λ j. nth a (at + j) *ℤ nth b (from + j))) ≤ mostRowTimes
 dot-small {a} {b} {at} {from} {count} p k h =
     let x : ℕ → ℤ = λ j. nth a (at + j) in
     let y : ℕ → ℤ = λ j. nth b (from + j) in
     omega (arith, p .few, products-size count k 1000 10_000 x y h (λ i l. p .a-small (at + i)) (λ i l. p .b-small (from + i)))
 
 pub row-small : {w : List ℤ} {n row : ℕ} {e : Exponents} → RowOfW w n row e → (k : ℕ) → k ≤ n
-    → natAbs (sum k (λ c. nth w (row * n + c) *ℤ nth (e .x) c)) ≤ 24 * (M * 160_000_000)
+    → natAbs (sum k (λ c. nth w (row * n + c) *ℤ nth (e .x) c)) ≤ 24 * (M * mostRowTimes)
 row-small {w} {n} {row} {e} p k h =
     let x : ℕ → ℤ = λ c. nth w (row * n + c) in
-    omega (arith, p .few, products-size n k M 160_000_000 x (nth (e .x)) h (λ c l. p .w-small .at (row * n + c)) (λ c l. p .e-small c))
+    omega (arith, p .few, products-size n k M mostRowTimes x (nth (e .x)) h (λ c l. p .w-small .at (row * n + c)) (λ c l. p .e-small c))

@@ -12,56 +12,49 @@ use Rattle.whole.proofs.Tests.{and-both}
 use Rattle.rules.specs.Limits.{roomCoefficients, roomExponents}
 use Rattle.rules.specs.Problem.{Problem, WellFormed}
 use Rattle.rules.specs.Stages.{run}
-use Rattle.rules.specs.Formulas.{Formula, d, WellFormedFormula}
+use Rattle.rules.specs.Formulas.{Formula, d}
 use Rattle.rules.specs.Calls.{Check, Verdict, taken, refused, verdict, rangeCheck, termsCheck}
-use Rattle.rules.specs.Calls.{filled, translatedExponents, translatedTo, translateOf, translateVerdict}
+use Rattle.rules.specs.Calls.{filled, translatedTo, translateOf, translateVerdict}
 use Rattle.theory.proofs.Refusals.{goes-on, stays}
 use Rattle.theory.proofs.Accepted.{all-pass, formula-accepted, terms-taken}
 use Rattle.checks.specs.declared.Refusal.{Refusal}
-use Rattle.checks.specs.Checks.{Says, given, TellsTo6}
+use Rattle.checks.specs.Checks.{given, TellsTo6}
 use Rattle.checks.specs.Moduli.{lentProblem}
 use Rattle.checks.proofs.Verdicts.{says-taken, says-refused, to6, formula-refused, formula-passed, exponents-passed, past-6}
 use Rattle.scaling.specs.declared.BuildAnswer.{BuildAnswer}
 use Rattle.scaling.proofs.Called.{Called}
 use Rattle.formulas.specs.declared.TranslateAnswer.{TranslateAnswer}
-use Rattle.formulas.specs.FormulaPromises.{Translates, RoomToTranslate, lentFormula, AllTaken}
+use Rattle.formulas.specs.FormulaPromises.{Translates, lentFormula, RoomToTranslate, Translatable}
+use Rattle.formulas.specs.FormulaPromises.{termsVerdict, Tells8And9, AllTaken, exponentsInto, translatedBy}
 use Rattle.formulas.proofs.Built.{range-says}
 
 -- ---- from a verdict
 module _ (P : Problem) (f : Formula) (ks ts : List ℤ) {x : Verdict} where
-  pub refuses : {number place : ℕ} → x ≡ refused number place
+  refuses : {number place : ℕ} → x ≡ refused number place
       → Translates (translatedTo P f ks ts x) (record { number = number; place = place; d = 0 }) ks ts
   refuses e = rw e (record { number = refl; place = refl; d = refl; kept = refl; translated = refl })
 
-  pub takes : {groups : ℕ} {ks₁ ts₁ : List ℤ} → x ≡ taken → groups ≡ d P (run P)
-      → ks₁ ≡ filled (f .coefficients) ks → ts₁ ≡ filled (translatedExponents P f) ts
+  takes : {groups : ℕ} {ks₁ ts₁ : List ℤ} → x ≡ taken → groups ≡ d P (run P) → ks₁ ≡ filled (f .coefficients) ks → ts₁ ≡ exponentsInto P f ts
       → Translates (translatedTo P f ks ts x) (record { number = 0; place = 0; d = groups }) ks₁ ts₁
-  takes e g k t = rw e (record {
-    number = refl;
-    place = refl;
-    d = g;
-    kept = k;
-    translated = t;
-  })
+  takes e g k t = rw e (record { number = refl; place = refl; d = g; kept = k; translated = t })
 
 -- ---- 8 and 9
-pub all-taken : (P : Problem) (f : Formula) → verdict (termsCheck P (run P) f ∷ []) ≡ taken → AllTaken P f
+all-taken : (P : Problem) (f : Formula) → termsVerdict P f ≡ taken → AllTaken P f
 all-taken P f e = record { each = terms-taken P (run P) f (all-pass (termsCheck P (run P) f ∷ []) e .0) }
 
 -- from what `judge_all` says
-module _ (P : Problem) (f : Formula) {number place : ℕ} (J : Says number place (verdict (termsCheck P (run P) f ∷ []))) where
-  abbrev Ends : (ks ts : List ℤ) → TranslateAnswer → (ks₁ ts₁ : List ℤ) → Type 0
-  Ends ks ts = Translates (translatedTo P f ks ts (verdict (termsCheck P (run P) f ∷ [])))
+module _ {P : Problem} {f : Formula} {j : Refusal} (J : Tells8And9 P f j) where
+  pub refused-there : (ks ts : List ℤ) → j .number ≢ 0 → Translates (translatedBy P f ks ts) (record { number = j .number; place = j .place; d = 0 }) ks ts
+  refused-there ks ts h = refuses P f ks ts (says-refused (J .says) h)
 
-  pub refused-there : (ks ts : List ℤ) → number ≢ 0 → Ends ks ts (record { number = number; place = place; d = 0 }) ks ts
-  refused-there ks ts h = refuses P f ks ts (says-refused J h)
+  module _ (e : j .number ≡ 0) where
+    pub none-refused : AllTaken P f
+    none-refused = all-taken P f (says-taken (J .says) e)
 
-  pub none-refused : number ≡ 0 → AllTaken P f
-  none-refused e = all-taken P f (says-taken J e)
-
-  pub all-written : (ks ts : List ℤ) {groups : ℕ} → number ≡ 0 → groups ≡ d P (run P)
-      → Ends ks ts (record { number = 0; place = 0; d = groups }) (filled (f .coefficients) ks) (filled (translatedExponents P f) ts)
-  all-written ks ts e g = takes P f ks ts (says-taken J e) g refl refl
+    pub all-written : (ks ts : List ℤ) {groups : ℕ} {ks₁ ts₁ : List ℤ} → groups ≡ d P (run P)
+        → ks₁ ≡ filled (f .coefficients) ks → ts₁ ≡ exponentsInto P f ts
+        → Translates (translatedBy P f ks ts) (record { number = 0; place = 0; d = groups }) ks₁ ts₁
+    all-written ks ts g k t = takes P f ks ts (says-taken (J .says) e) g k t
 
 -- ---- 1 to 6
 module _ {m n : ℕ} {matrix moduli es : List ℤ} {c : Refusal} (cs ks ts : List ℤ)
@@ -89,13 +82,16 @@ module _ {m n : ℕ} {matrix moduli es : List ℤ} {c : Refusal} (cs ks ts : Lis
     pub well-formed : WellFormed (lentProblem n matrix moduli)
     well-formed = formula-passed t e .wellFormed
 
-    pub room : RoomToTranslate ks ts
+    room : RoomToTranslate ks ts
     room =
         let b = and-both (leb roomCoefficients (length ks)) (leb roomExponents (length ts)) (formula-passed t e .room) in
         record { kept = leb-true roomCoefficients (length ks) (b .0); translated = leb-true roomExponents (length ts) (b .1) }
 
-    pub good-formula : WellFormedFormula (lentProblem n matrix moduli) f
-    good-formula = formula-accepted (lentProblem n matrix moduli) f (formula-passed t e .also) (exponents-passed t e)
+    pub translatable : Translatable (lentProblem n matrix moduli) f ks ts
+    translatable = record {
+      wellFormed = formula-accepted (lentProblem n matrix moduli) f (formula-passed t e .also) (exponents-passed t e);
+      room = room;
+    }
 
     -- ---- 7
     module _ {h v w : List ℤ} {r : BuildAnswer} {h₁ v₁ w₁ : List ℤ} (K : Called (given m n matrix moduli) h v w r h₁ v₁ w₁) where
@@ -104,7 +100,6 @@ module _ {m n : ℕ} {matrix moduli es : List ℤ} {c : Refusal} (cs ks ts : Lis
           ∙ stays (rangeCheck (run P) ∷ []) (termsCheck P (run P) f ∷ []) (r .number) (r .place) (says-refused (range-says t e K) z)))
 
       pub translate-passed : r .number ≡ 0 → {a : TranslateAnswer} {ks₁ ts₁ : List ℤ}
-          → Translates (translatedTo (lentProblem n matrix moduli) f ks ts (verdict (termsCheck (lentProblem n matrix moduli) (run (lentProblem n matrix moduli)) f ∷ []))) a ks₁ ts₁
-          → Translates (translateOf P f ks ts) a ks₁ ts₁
+          → Translates (translatedBy (lentProblem n matrix moduli) f ks ts) a ks₁ ts₁ → Translates (translateOf P f ks ts) a ks₁ ts₁
       translate-passed z {a} {ks₁} {ts₁} T =
           rw (translate-is (past-6 t e last3 ∙ goes-on (rangeCheck (run P) ∷ []) (termsCheck P (run P) f ∷ []) (says-taken (range-says t e K) z)), formula-passed t e .same) T

@@ -10,88 +10,86 @@ use lib.ListN.{length}
 use lib.IntN.{ℤ, _*ℤ_}
 use Rattle.whole.specs.Lists.{nth}
 use Rattle.whole.proofs.Sum.{sum-cong}
-use Rattle.rules.specs.Limits.{beyond}
+use Rattle.rules.specs.Limits.{mostTerms, roomExponents, beyond}
 use Rattle.rules.specs.Search.{first}
 use Rattle.rules.specs.Problem.{Problem, N, WellFormed}
 use Rattle.rules.specs.Stages.{run, W}
-use Rattle.rules.specs.Formulas.{isNone, isFree, kThenV, d, translated, passes, WellFormedFormula}
+use Rattle.rules.specs.Formulas.{Formula, terms, isNone, isFree, kThenV, d, translated, passes, WellFormedFormula}
 use Rattle.rules.specs.Calls.{termRefused, termNumber}
 use Rattle.theory.proofs.Search.{first-cong}
 use Rattle.theory.proofs.Accepted.{term-accepted}
 use Rattle.formulas.specs.declared.terms.Exponents.{Exponents}
 use Rattle.checks.specs.declared.ModulusRows.{ModulusRows}
-use Rattle.checks.specs.Moduli.{lentProblem, Lists}
-use Rattle.formulas.specs.Terms.{Monomial, KThenV, rowOfW, RowsOfW}
-use Rattle.formulas.specs.FormulaPromises.{lentFormula, Solved, judged, Passing}
+use Rattle.formulas.specs.Terms.{Monomial, KThenV, rowOfW, RowsOfW, oneBeyond, NoneBeyond}
+use Rattle.formulas.specs.FormulaPromises.{Prepared, judged}
 use Rattle.checks.proofs.Values.{not-beyond}
 
--- ---- the exponents in the groups; the code's number of columns is n + s
-module _ {n : ℕ} {matrix moduli : List ℤ} {q : ModulusRows} {w : List ℤ} {r : ℕ}
-    (F : WellFormed (lentProblem n matrix moduli)) (L : Lists (lentProblem n matrix moduli) q) (S : Solved (lentProblem n matrix moduli) w r) where
-  abbrev P : Problem
-  P = lentProblem n matrix moduli
+-- ---- the exponents in the groups
+module _ {P : Problem} {q : ModulusRows} {w : List ℤ} {r : ℕ} (A : Prepared P q w r) where
+  -- as the code counts them
+  abbrev cols : ℕ
+  cols = P .n + q .s
 
-  cols-are : n + q .s ≡ N P
-  cols-are = ap (λ k. n + k) (L .count)
+  cols-are : cols ≡ N P
+  cols-are = ap (λ k. P .n + k) (A .lists .count)
 
-  pub groups-are : n + q .s - r ≡ d P (run P)
-  groups-are = ap₂ _-_ cols-are (S .rank)
+  pub groups-are : cols - r ≡ d P (run P)
+  groups-are = ap₂ _-_ cols-are (A .solved .rank)
 
-  pub few-cols : n + q .s ≤ 24
-  few-cols = omega (arith, F .n-high, L .few)
+  pub few-cols : cols ≤ 24
+  few-cols = omega (arith, A .wellFormed .n-high, A .lists .few)
 
-  pub rank-in : r ≤ n + q .s
-  rank-in = omega (arith, cols-are, S .upto)
+  pub rank-in : r ≤ cols
+  rank-in = omega (arith, cols-are, A .solved .upto)
 
-  pub room-for-terms : (t : ℕ) → t ≤ 64 → t * (n + q .s - r) ≤ 1024
+  pub room-for-terms : (t : ℕ) → t ≤ mostTerms → t * (cols - r) ≤ roomExponents
   room-for-terms t h =
-      let few : n + q .s - r ≤ 16 = omega (arith, cols-are, S .groups, F .n-high) in
+      let few : cols - r ≤ 16 = omega (arith, cols-are, A .solved .groups, A .wellFormed .n-high) in
       mul-le-mul h few
 
   module _ {v : ℕ → ℤ} {e : Exponents} (K : KThenV P v e) where
-    pub rows-in : RowsOfW w (n + q .s) r e
+    pub rows-in : RowsOfW w cols r e
     rows-in = record {
       few = few-cols;
       r-in = rank-in;
-      length = omega (arith, S .length, mul-le-mul few-cols few-cols);
-      w-small = S .small;
+      length = omega (arith, A .solved .length, mul-le-mul few-cols few-cols);
+      w-small = A .solved .small;
       e-small = K .small;
     }
 
-    pub exponent-is : (g : ℕ) → g < n + q .s - r → rowOfW w (n + q .s) (r + g) (e .x) ≡ translated P (run P) v g
+    pub exponent-is : (g : ℕ) → g < cols - r → rowOfW w cols (r + g) (e .x) ≡ translated P (run P) v g
     unfolding translated
     exponent-is g h =
         let row-in : r + g < N P = omega (arith, cols-are) in
         ap (λ k. rowOfW w k (r + g) (e .x)) cols-are
         ∙ sum-cong (N P) (λ c. nth w ((r + g) * N P + c) *ℤ nth (e .x) c) (λ c. W (run P) (run P .rank + g) c *ℤ kThenV P v c)
-        (λ c l. ap₂ _*ℤ_ (S .entries (r + g) c row-in l ∙ ap (λ k. W (run P) (k + g) c) (S .rank)) (K .entries c l))
+        (λ c l. ap₂ _*ℤ_ (A .solved .entries (r + g) c row-in l ∙ ap (λ k. W (run P) (k + g) c) (A .solved .rank)) (K .entries c l))
 
-    pub passes-is : not (isNone (first (λ g. beyond (rowOfW w (n + q .s) (r + g) (e .x))) 0 (n + q .s - r))) ≡ passes P (run P) v
+    pub passes-is : oneBeyond w cols r (e .x) ≡ passes P (run P) v
     unfolding passes
     passes-is =
         ap (λ x. not (isNone x))
-        (first-cong (λ g. beyond (rowOfW w (n + q .s) (r + g) (e .x))) (λ g. beyond (translated P (run P) v g)) 0 (n + q .s - r)
+        (first-cong (λ g. beyond (rowOfW w cols (r + g) (e .x))) (λ g. beyond (translated P (run P) v g)) 0 (cols - r)
         (λ g i. ap beyond (exponent-is g (i .high)))
         ∙ ap (first (λ g. beyond (translated P (run P) v g)) 0) groups-are)
 
-    pub taken-passes : termRefused P (run P) v ≡ false → Passing w (n + q .s) r e
-    taken-passes t = record {
+    pub none-beyond : termRefused P (run P) v ≡ false → NoneBeyond w cols r (e .x)
+    none-beyond t = record {
       within = λ g h.
           ap beyond (exponent-is g h)
           ∙ not-beyond (translated P (run P) v g) (term-accepted P (run P) v t .1 g (omega (arith, groups-are)));
     }
 
 -- ---- where a term's exponents stand
-module _ {n : ℕ} {matrix moduli cs es : List ℤ} (F : WellFormed (lentProblem n matrix moduli))
-    (G : WellFormedFormula (lentProblem n matrix moduli) (lentFormula cs es)) (t : ℕ) (h : t < length cs) where
-  pub term-place : t * n ≤ 1024
+module _ {P : Problem} {f : Formula} (F : WellFormed P) (G : WellFormedFormula P f) (t : ℕ) (h : t < terms f) where
+  pub term-place : t * P .n ≤ roomExponents
   term-place =
-      let few : t ≤ 64 = omega (arith, G .few) in
+      let few : t ≤ mostTerms = omega (arith, G .few) in
       mul-le-mul few (F .n-high)
 
-  pub term-monomial : Monomial n es (t * n)
+  pub term-monomial : Monomial (P .n) (f .exponents) (t * P .n)
   term-monomial = record {
-    fits = let l : suc t * n ≤ length cs * n = mul-le-mul h (omega arith) in omega (arith, G .fits);
+    fits = let l : suc t * P .n ≤ terms f * P .n = mul-le-mul h (omega arith) in omega (arith, G .fits);
     small = G .small;
   }
 

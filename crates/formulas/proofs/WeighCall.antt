@@ -11,20 +11,20 @@ use lib.ListN.{length}
 use lib.IntN.{ℤ}
 use borrow.Author.Tests.{leb-true, eqb-true}
 use Rattle.whole.specs.Lists.{nth}
-use Rattle.rules.specs.Limits.{roomWeights}
-use Rattle.rules.specs.Problem.{Problem, WellFormed}
+use Rattle.rules.specs.Limits.{mostTerms, roomWeights}
+use Rattle.rules.specs.Problem.{Problem}
 use Rattle.rules.specs.Calls.{Verdict, verdict, problemFits, weights, filled, weighed, weighOf, weighVerdict}
 use Rattle.theory.proofs.Accepted.{exponents-small}
 use Rattle.checks.specs.declared.Refusal.{Refusal}
 use Rattle.checks.specs.Checks.{given, termsFit, TellsTo6}
 use Rattle.checks.specs.Moduli.{lentProblem}
 use Rattle.checks.proofs.Verdicts.{says-taken, says-refused, to6, formula-passed, exponents-passed}
-use Rattle.formulas.specs.Terms.{Monomial}
+use Rattle.formulas.specs.Terms.{TermOf}
 use Rattle.formulas.specs.FormulaPromises.{Weighs}
 
 -- a monomial is one term
 one-term : (n exponents : ℕ) → termsFit n 1 exponents ≡ eqb exponents n
-one-term n k = ap (λ (x : ℕ). eqb k x && leb 1 64) (one-mul n) ∙ and-true (eqb k n)
+one-term n k = ap (λ (x : ℕ). eqb k x && leb 1 mostTerms) (one-mul n) ∙ and-true (eqb k n)
 
 module _ {m n : ℕ} {matrix moduli es : List ℤ} {c : Refusal} (out : List ℤ) (t : TellsTo6 m n matrix moduli 1 es (leb roomWeights (length out)) c) where
   abbrev P : Problem
@@ -39,16 +39,16 @@ module _ {m n : ℕ} {matrix moduli es : List ℤ} {c : Refusal} (out : List ℤ
   weigh-refused d = rw (weigh-is (says-refused (t .says) d)) (record { number = refl; place = refl; weights = refl })
 
   module _ (e : c .number ≡ 0) where
-    pub well-formed : WellFormed (lentProblem n matrix moduli)
-    well-formed = formula-passed t e .wellFormed
+    pub room : roomWeights ≤ length out
+    room = leb-true roomWeights (length out) (formula-passed t e .room)
 
-    pub room : 8 ≤ length out
-    room = leb-true 8 (length out) (formula-passed t e .room)
-
-    pub monomial : Monomial n es 0
-    monomial = record {
-      fits = omega (arith, eqb-true (length es) n (sym (one-term n (length es)) ∙ formula-passed t e .also));
-      small = exponents-small es (exponents-passed t e);
+    pub the-term : TermOf (lentProblem n matrix moduli) es 0
+    the-term = record {
+      wellFormed = formula-passed t e .wellFormed;
+      monomial = record {
+        fits = omega (arith, eqb-true (length es) n (sym (one-term n (length es)) ∙ formula-passed t e .also));
+        small = exponents-small es (exponents-passed t e);
+      };
     }
 
     pub weigh-passed : {out₁ : List ℤ} → out₁ ≡ filled (weights (lentProblem n matrix moduli) (nth es)) out

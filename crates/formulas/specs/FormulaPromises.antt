@@ -2,21 +2,24 @@
 -- checks and the answer.
 use mathlib.Core.Path.{_≡_}
 use mathlib.Core.Bool.{false, cond}
-use mathlib.Core.List.{List}
+use mathlib.Core.List.{List, [], _∷_}
 use Prim.Native.Nat.{ℕ, _+_, _-_, _*_, _<_, _≤_}
 use lib.ListN.{length}
 use lib.IntN.{ℤ}
 use Rattle.whole.specs.Lists.{nth}
-use Rattle.rules.specs.Limits.{beyond, roomCoefficients, roomExponents}
-use Rattle.rules.specs.Problem.{Problem, N}
+use Rattle.rules.specs.Limits.{roomW, roomCoefficients, roomExponents}
+use Rattle.rules.specs.Problem.{Problem, N, WellFormed}
 use Rattle.rules.specs.Stages.{run, W}
-use Rattle.rules.specs.Formulas.{Formula, terms, term}
-use Rattle.rules.specs.Calls.{Weighed, Translated, termRefused, termNumber}
+use Rattle.rules.specs.Formulas.{Formula, terms, term, WellFormedFormula}
+use Rattle.rules.specs.Calls.{Verdict, verdict, termRefused, termNumber, termsCheck, filled, translatedExponents}
+use Rattle.rules.specs.Calls.{Weighed, Translated, translatedTo, translateOf}
+use Rattle.checks.specs.declared.ModulusRows.{ModulusRows}
+use Rattle.checks.specs.declared.Refusal.{Refusal}
+use Rattle.checks.specs.Checks.{Says, given}
+use Rattle.checks.specs.Moduli.{lentProblem, Lists}
 use Rattle.formulas.specs.declared.WeighAnswer.{WeighAnswer}
 use Rattle.formulas.specs.declared.TranslateAnswer.{TranslateAnswer}
-use Rattle.formulas.specs.declared.terms.Exponents.{Exponents}
 use Rattle.scaling.specs.WorkState.{Small}
-use Rattle.formulas.specs.Terms.{rowOfW}
 
 -- ---- weigh
 pub record Weighs (b : Weighed) (r : WeighAnswer) (out₁ : List ℤ) : Type 0 where
@@ -33,12 +36,23 @@ pub record Translates {A : Type 0} (b : Translated A) (r : TranslateAnswer) (kep
   pub kept : kept₁ ≡ b .coefficients
   pub translated : translated₁ ≡ b .exponents
 
+-- the formula of two lent lists
+abbrev pub lentFormula : (coefficients exponents : List ℤ) → Formula
+lentFormula cs es = record { coefficients = cs; exponents = es }
+
+-- what `translate` is to answer and to leave, of the lists that are lent to it
+abbrev pub lentTranslation : (m n : ℕ) (matrix moduli coefficients exponents kept translated : List ℤ) → Translated ℤ
+lentTranslation m n matrix moduli cs es ks ts = translateOf (given m n matrix moduli) (lentFormula cs es) ks ts
+
+-- ---- what is known before a translation
 pub record RoomToTranslate (kept₀ translated₀ : List ℤ) : Type 0 where
   pub kept : roomCoefficients ≤ length kept₀
   pub translated : roomExponents ≤ length translated₀
 
-abbrev pub lentFormula : (coefficients exponents : List ℤ) → Formula
-lentFormula cs es = record { coefficients = cs; exponents = es }
+-- a well-formed formula, and room for what it becomes
+pub record Translatable (P : Problem) (f : Formula) (kept₀ translated₀ : List ℤ) : Type 0 where
+  pub wellFormed : WellFormedFormula P f
+  pub room : RoomToTranslate kept₀ translated₀
 
 -- w and r are W and the rank of the problem's run, none of whose steps was beyond M
 pub record Solved (P : Problem) (w : List ℤ) (r : ℕ) : Type 0 where
@@ -46,18 +60,39 @@ pub record Solved (P : Problem) (w : List ℤ) (r : ℕ) : Type 0 where
   pub rank : r ≡ run P .rank
   pub upto : r ≤ N P
   pub groups : N P - r ≤ P .n
-  pub length : length w ≡ 576
+  pub length : length w ≡ roomW
   pub small : Small w
   pub entries : (i c : ℕ) → i < N P → c < N P → nth w (i * N P + c) ≡ W (run P) i c
 
+-- a well-formed problem with its rows that have a modulus, its W and its rank
+pub record Prepared (P : Problem) (q : ModulusRows) (w : List ℤ) (r : ℕ) : Type 0 where
+  pub wellFormed : WellFormed P
+  pub lists : Lists P q
+  pub solved : Solved P w r
+
+-- ---- checks 8 and 9
 -- 0 for a term that is taken, else 8 or 9
 abbrev pub judged : Problem → (v : ℕ → ℤ) → ℕ
 judged P v = cond (termRefused P (run P) v) (termNumber P v) 0
 
--- none of the translated exponents is beyond M
-pub record Passing (w : List ℤ) (n r : ℕ) (e : Exponents) : Type 0 where
-  pub within : (g : ℕ) → g < n - r → beyond (rowOfW w n (r + g) (e .x)) ≡ false
+abbrev pub termsVerdict : Problem → Formula → Verdict
+termsVerdict P f = verdict (termsCheck P (run P) f ∷ [])
+
+pub record Tells8And9 (P : Problem) (f : Formula) (r : Refusal) : Type 0 where
+  pub says : Says (r .number) (r .place) (termsVerdict P f)
 
 -- every term is taken
 pub record AllTaken (P : Problem) (f : Formula) : Type 0 where
   pub each : (t : ℕ) → t < terms f → termRefused P (run P) (term P f t) ≡ false
+
+-- ---- after checks 1 to 7
+-- a lent output with the exponents of every term written into it
+abbrev pub exponentsInto : Problem → Formula → (translated : List ℤ) → List ℤ
+exponentsInto P f ts = filled (translatedExponents P f) ts
+
+-- the answer and the outputs, as 8 and 9 decide; and the same of the lent lists
+abbrev pub translatedBy : Problem → Formula → (kept translated : List ℤ) → Translated ℤ
+translatedBy P f ks ts = translatedTo P f ks ts (termsVerdict P f)
+
+abbrev pub checkedTranslation : (n : ℕ) (matrix moduli coefficients exponents kept translated : List ℤ) → Translated ℤ
+checkedTranslation n matrix moduli cs es ks ts = translatedBy (lentProblem n matrix moduli) (lentFormula cs es) ks ts

@@ -1,28 +1,28 @@
 // The weights of a monomial, and the translation of a formula.
 ghost use mathlib.Core.Path.{_≡_};
-ghost use mathlib.Core.List.{_∷_, []};
 ghost use Prim.Native.Nat.{_≤_, _+_, _-_};
 ghost use lib.ListN.{length};
 ghost use Rattle.whole.specs.Lists.{nth};
+ghost use Rattle.rules.specs.Limits.{roomWeights};
 ghost use Rattle.rules.specs.Problem.{WellFormed};
-ghost use Rattle.rules.specs.Stages as stages;
 ghost use Rattle.rules.specs.Formulas.{WellFormedFormula};
-ghost use Rattle.rules.specs.Calls.{verdict, termsCheck, filled, weighOf, translatedTo, translateOf, translatedExponents};
+ghost use Rattle.rules.specs.Calls.{filled, weighOf};
 ghost use Rattle.rules.specs.Calls as calls;
-ghost use Rattle.checks.specs.Checks.{Says, given};
-ghost use Rattle.checks.specs.Moduli.{lentProblem, Lists};
-ghost use Rattle.formulas.specs.Terms.{from, Monomial, rowOfW, RowsOfW, written};
-ghost use Rattle.formulas.specs.FormulaPromises.{Weighs, Translates, RoomToTranslate, lentFormula, Solved, judged, Passing, AllTaken};
+ghost use Rattle.checks.specs.Checks.{given};
+ghost use Rattle.checks.specs.Moduli.{lentProblem};
+ghost use Rattle.formulas.specs.Terms.{from, Monomial, TermOf, rowOfW, RowsOfW, NoneBeyond, written};
+ghost use Rattle.formulas.specs.FormulaPromises.{Weighs, Translates, lentFormula, lentTranslation, Translatable, Solved, Prepared};
+ghost use Rattle.formulas.specs.FormulaPromises.{judged, Tells8And9, AllTaken, exponentsInto, checkedTranslation};
+
+mod terms;
+
+use checks::ModulusRows;
 use checks::ROOM_COEFFICIENTS;
 use checks::ROOM_EXPONENTS;
 use checks::ROOM_H;
 use checks::ROOM_V;
 use checks::ROOM_W;
 use checks::ROOM_WEIGHTS;
-
-mod terms;
-
-use checks::ModulusRows;
 use checks::Refusal;
 use checks::both;
 use checks::modulus_rows;
@@ -45,9 +45,8 @@ pub struct TranslateAnswer {
 
 // The weights of a monomial of a problem that has passed its checks.
 fn weigh_checked(n: usize, matrix: &[i32], moduli: &[i32], exponents: &[i32], weights: &mut [i32])
-    requires { ⌜ WellFormed (lentProblem n (now matrix) (now moduli)) ⌝ }
-    requires { ⌜ Monomial n (now exponents) 0 ⌝ }
-    requires { ⌜ 8 ≤ length (now weights) ⌝ }
+    requires { ⌜ TermOf (lentProblem n (now matrix) (now moduli)) (now exponents) 0 ⌝ }
+    requires { ⌜ roomWeights ≤ length (now weights) ⌝ }
     ensures { λ r. ⌜ now (weights .exit) ≡ filled (calls.weights (lentProblem n (now (matrix .entry)) (now (moduli .entry))) (nth (now (exponents .entry)))) (now (weights .entry)) ⌝ }
 {
     let mut i = 0;
@@ -103,9 +102,7 @@ fn judge(
     exponents: &[i32],
     start: usize,
 ) -> u32
-    requires { ⌜ WellFormed (lentProblem n (now matrix) (now moduli)) ⌝ }
-    requires { ⌜ Lists (lentProblem n (now matrix) (now moduli)) q ⌝ }
-    requires { ⌜ Solved (lentProblem n (now matrix) (now moduli)) (now w) r ⌝ }
+    requires { ⌜ Prepared (lentProblem n (now matrix) (now moduli)) q (now w) r ⌝ }
     requires { ⌜ Monomial n (now exponents) start ⌝ }
     ensures { λ x. ⌜ x ≡ judged (lentProblem n (now (matrix .entry)) (now (moduli .entry))) (from (now (exponents .entry)) start) ⌝ }
 {
@@ -130,11 +127,9 @@ fn judge_all(
     coefficients: &[i32],
     exponents: &[i32],
 ) -> Refusal
-    requires { ⌜ WellFormed (lentProblem n (now matrix) (now moduli)) ⌝ }
-    requires { ⌜ Lists (lentProblem n (now matrix) (now moduli)) q ⌝ }
-    requires { ⌜ Solved (lentProblem n (now matrix) (now moduli)) (now w) r ⌝ }
+    requires { ⌜ Prepared (lentProblem n (now matrix) (now moduli)) q (now w) r ⌝ }
     requires { ⌜ WellFormedFormula (lentProblem n (now matrix) (now moduli)) (lentFormula (now coefficients) (now exponents)) ⌝ }
-    ensures { λ x. ⌜ Says (x .number) (x .place) (verdict (termsCheck (lentProblem n (now (matrix .entry)) (now (moduli .entry))) (stages.run (lentProblem n (now (matrix .entry)) (now (moduli .entry)))) (lentFormula (now (coefficients .entry)) (now (exponents .entry))) ∷ [])) ⌝ }
+    ensures { λ x. ⌜ Tells8And9 (lentProblem n (now (matrix .entry)) (now (moduli .entry))) (lentFormula (now (coefficients .entry)) (now (exponents .entry))) x ⌝ }
 {
     let mut t = 0;
     while t < coefficients.len() {
@@ -163,7 +158,7 @@ fn translate_term(
     e: Exponents,
 )
     requires { ⌜ RowsOfW (now w) cols r e ⌝ }
-    requires { ⌜ Passing (now w) cols r e ⌝ }
+    requires { ⌜ NoneBeyond (now w) cols r (e .x) ⌝ }
     requires { ⌜ at + (cols - r) ≤ length (now out) ⌝ }
     ensures { λ x. ⌜ now (out .exit) ≡ written (now (out .entry)) at (cols - r) (λ g. rowOfW (now (w .entry)) cols (r + g) (e .x)) ⌝ }
 {
@@ -189,13 +184,11 @@ fn translate_all(
     coefficients: &[i32],
     exponents: &[i32],
 )
-    requires { ⌜ WellFormed (lentProblem n (now matrix) (now moduli)) ⌝ }
-    requires { ⌜ Lists (lentProblem n (now matrix) (now moduli)) q ⌝ }
-    requires { ⌜ Solved (lentProblem n (now matrix) (now moduli)) (now w) r ⌝ }
-    requires { ⌜ WellFormedFormula (lentProblem n (now matrix) (now moduli)) (lentFormula (now coefficients) (now exponents)) ⌝ }
-    requires { ⌜ RoomToTranslate (now kept) (now out) × AllTaken (lentProblem n (now matrix) (now moduli)) (lentFormula (now coefficients) (now exponents)) ⌝ }
+    requires { ⌜ Prepared (lentProblem n (now matrix) (now moduli)) q (now w) r ⌝ }
+    requires { ⌜ Translatable (lentProblem n (now matrix) (now moduli)) (lentFormula (now coefficients) (now exponents)) (now kept) (now out) ⌝ }
+    requires { ⌜ AllTaken (lentProblem n (now matrix) (now moduli)) (lentFormula (now coefficients) (now exponents)) ⌝ }
     ensures { λ x. ⌜ now (kept .exit) ≡ filled (now (coefficients .entry)) (now (kept .entry)) ⌝ }
-    ensures { λ x. ⌜ now (out .exit) ≡ filled (translatedExponents (lentProblem n (now (matrix .entry)) (now (moduli .entry))) (lentFormula (now (coefficients .entry)) (now (exponents .entry)))) (now (out .entry)) ⌝ }
+    ensures { λ x. ⌜ now (out .exit) ≡ exponentsInto (lentProblem n (now (matrix .entry)) (now (moduli .entry))) (lentFormula (now (coefficients .entry)) (now (exponents .entry))) (now (out .entry)) ⌝ }
 {
     let cols = n + q.s;
     let d = cols - r;
@@ -222,9 +215,9 @@ fn translate_checked(
 ) -> TranslateAnswer
     requires { ⌜ WellFormed (lentProblem n (now matrix) (now moduli)) ⌝ }
     requires { ⌜ Solved (lentProblem n (now matrix) (now moduli)) (now w) r ⌝ }
-    requires { ⌜ WellFormedFormula (lentProblem n (now matrix) (now moduli)) (lentFormula (now coefficients) (now exponents)) ⌝ }
-    requires { ⌜ RoomToTranslate (now kept) (now translated) ⌝ }
-    ensures { λ x. ⌜ Translates (translatedTo (lentProblem n (now (matrix .entry)) (now (moduli .entry))) (lentFormula (now (coefficients .entry)) (now (exponents .entry))) (now (kept .entry)) (now (translated .entry)) (verdict (termsCheck (lentProblem n (now (matrix .entry)) (now (moduli .entry))) (stages.run (lentProblem n (now (matrix .entry)) (now (moduli .entry)))) (lentFormula (now (coefficients .entry)) (now (exponents .entry))) ∷ []))) x (now (kept .exit)) (now (translated .exit)) ⌝ }
+    requires { ⌜ Translatable (lentProblem n (now matrix) (now moduli)) (lentFormula (now coefficients) (now exponents)) (now kept) (now translated) ⌝ }
+    ensures { λ x. ⌜ Translates (checkedTranslation n (now (matrix .entry)) (now (moduli .entry)) (now (coefficients .entry)) (now (exponents .entry))
+        (now (kept .entry)) (now (translated .entry))) x (now (kept .exit)) (now (translated .exit)) ⌝ }
 {
     let q = modulus_rows(moduli);
     let j = judge_all(n, matrix, moduli, q, w, r, coefficients, exponents);
@@ -266,7 +259,8 @@ pub fn translate(
     kept: &mut [i32],
     translated: &mut [i32],
 ) -> TranslateAnswer
-    ensures { λ r. ⌜ Translates (translateOf (given m n (now (matrix .entry)) (now (moduli .entry))) (lentFormula (now (coefficients .entry)) (now (exponents .entry))) (now (kept .entry)) (now (translated .entry))) r (now (kept .exit)) (now (translated .exit)) ⌝ }
+    ensures { λ r. ⌜ Translates (lentTranslation m n (now (matrix .entry)) (now (moduli .entry)) (now (coefficients .entry)) (now (exponents .entry))
+        (now (kept .entry)) (now (translated .entry))) r (now (kept .exit)) (now (translated .exit)) ⌝ }
 {
     let outputs = both(
         ROOM_COEFFICIENTS <= kept.len(),

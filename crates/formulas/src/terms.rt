@@ -1,19 +1,15 @@
 // Weights, and the translation of one term: its exponents stand in a lent list, from an index on.
 ghost use mathlib.Core.Path.{_≡_};
-ghost use mathlib.Core.Bool.{not};
-ghost use Prim.Native.Nat.{_<_, _≤_, _+_, _-_, _*_};
+ghost use Prim.Native.Nat.{_<_, _≤_, _+_};
 ghost use lib.ListN.{length};
 ghost use lib.IntN.{natAbs, _*ℤ_};
-ghost use lib.Signed.{quotZ};
 ghost use Rattle.whole.specs.Lists.{nth};
 ghost use Rattle.whole.specs.Sum.{sum};
-ghost use Rattle.rules.specs.Limits as limits;
-ghost use Rattle.rules.specs.Search.{first};
-ghost use Rattle.rules.specs.Problem.{s, modulus, WellFormed};
-ghost use Rattle.rules.specs.Formulas.{rowTimes, isFree, isNone};
+ghost use Rattle.rules.specs.Formulas.{isFree};
 ghost use Rattle.rules.specs.Formulas as formulas;
 ghost use Rattle.checks.specs.Moduli.{lentProblem, Lists};
-ghost use Rattle.formulas.specs.Terms.{from, Monomial, Products, Modulus, HoldsK, KThenV, Weight, Limited, rowOfW, RowOfW, RowsOfW};
+ghost use Rattle.formulas.specs.Terms.{from, TermOf, Products, mostRowTimes, Weight, Modulus, kOfRow, Limited, HoldsK, KThenV};
+ghost use Rattle.formulas.specs.Terms.{rowOfW, RowOfW, RowsOfW, oneBeyond};
 use checks::ModulusRows;
 use checks::beyond;
 use checks::is_zero;
@@ -40,7 +36,7 @@ fn dot(a: &[i32], at: usize, b: &[i32], start: usize, count: usize) -> i64
 
 // The remainder of x by p, with the sign of x.
 fn remainder(x: i64, p: i32) -> i64
-    requires { ⌜ (natAbs x ≤ 160000000) × (0 < natAbs p) ⌝ }
+    requires { ⌜ (natAbs x ≤ mostRowTimes) × (0 < natAbs p) ⌝ }
     ensures { λ r. ⌜ r ≡ formulas.remainder x p ⌝ }
 {
     x % (p as i64)
@@ -48,8 +44,7 @@ fn remainder(x: i64, p: i32) -> i64
 
 // The weight in row i of the exponents that begin at `start`.
 pub fn weight(n: usize, matrix: &[i32], moduli: &[i32], es: &[i32], start: usize, i: usize) -> i64
-    requires { ⌜ WellFormed (lentProblem n (now matrix) (now moduli)) ⌝ }
-    requires { ⌜ Monomial n (now es) start ⌝ }
+    requires { ⌜ TermOf (lentProblem n (now matrix) (now moduli)) (now es) start ⌝ }
     requires { ⌜ i < length (now moduli) ⌝ }
     ensures { λ r. ⌜ Weight (lentProblem n (now (matrix .entry)) (now (moduli .entry))) (from (now (es .entry)) start) i r ⌝ }
 {
@@ -59,8 +54,7 @@ pub fn weight(n: usize, matrix: &[i32], moduli: &[i32], es: &[i32], start: usize
 }
 
 pub fn is_free(n: usize, matrix: &[i32], moduli: &[i32], es: &[i32], start: usize) -> bool
-    requires { ⌜ WellFormed (lentProblem n (now matrix) (now moduli)) ⌝ }
-    requires { ⌜ Monomial n (now es) start ⌝ }
+    requires { ⌜ TermOf (lentProblem n (now matrix) (now moduli)) (now es) start ⌝ }
     ensures { λ r. ⌜ r ≡ isFree (lentProblem n (now (matrix .entry)) (now (moduli .entry))) (from (now (es .entry)) start) ⌝ }
 {
     let mut i = 0;
@@ -80,10 +74,9 @@ pub struct Exponents {
 
 // The row times v, divided by the modulus.
 fn k_of(n: usize, matrix: &[i32], moduli: &[i32], es: &[i32], start: usize, i: usize) -> i64
-    requires { ⌜ WellFormed (lentProblem n (now matrix) (now moduli)) ⌝ }
-    requires { ⌜ Monomial n (now es) start ⌝ }
+    requires { ⌜ TermOf (lentProblem n (now matrix) (now moduli)) (now es) start ⌝ }
     requires { ⌜ Modulus (lentProblem n (now matrix) (now moduli)) i ⌝ }
-    ensures { λ r. ⌜ r ≡ quotZ (rowTimes (lentProblem n (now (matrix .entry)) (now (moduli .entry))) (from (now (es .entry)) start) i) (modulus (lentProblem n (now (matrix .entry)) (now (moduli .entry))) i) ⌝ }
+    ensures { λ r. ⌜ r ≡ kOfRow (lentProblem n (now (matrix .entry)) (now (moduli .entry))) (from (now (es .entry)) start) i ⌝ }
 {
     let x = dot(matrix, i * n, es, start, n);
     x / (moduli[i] as i64)
@@ -98,9 +91,8 @@ fn fill_k(
     es: &[i32],
     start: usize,
 ) -> Exponents
-    requires { ⌜ WellFormed (lentProblem n (now matrix) (now moduli)) ⌝ }
+    requires { ⌜ TermOf (lentProblem n (now matrix) (now moduli)) (now es) start ⌝ }
     requires { ⌜ Lists (lentProblem n (now matrix) (now moduli)) q ⌝ }
-    requires { ⌜ Monomial n (now es) start ⌝ }
     requires { ⌜ Limited e ⌝ }
     ensures { λ r. ⌜ HoldsK (lentProblem n (now (matrix .entry)) (now (moduli .entry))) (from (now (es .entry)) start) r ⌝ }
 {
@@ -128,9 +120,8 @@ pub fn k_then_v(
     es: &[i32],
     start: usize,
 ) -> Exponents
-    requires { ⌜ WellFormed (lentProblem n (now matrix) (now moduli)) ⌝ }
+    requires { ⌜ TermOf (lentProblem n (now matrix) (now moduli)) (now es) start ⌝ }
     requires { ⌜ Lists (lentProblem n (now matrix) (now moduli)) q ⌝ }
-    requires { ⌜ Monomial n (now es) start ⌝ }
     ensures { λ r. ⌜ KThenV (lentProblem n (now (matrix .entry)) (now (moduli .entry))) (from (now (es .entry)) start) r ⌝ }
 {
     let mut e = fill_k(Exponents { x: [0; 24] }, n, matrix, moduli, q, es, start);
@@ -144,7 +135,7 @@ pub fn k_then_v(
 }
 
 fn product64(a: i32, b: i64) -> i64
-    requires { ⌜ natAbs b ≤ 160000000 ⌝ }
+    requires { ⌜ natAbs b ≤ mostRowTimes ⌝ }
     ensures { λ r. ⌜ r ≡ a *ℤ b ⌝ }
 {
     (a as i64) * b
@@ -167,7 +158,7 @@ pub fn translated(w: &[i32], n: usize, row: usize, e: Exponents) -> i64
 // Whether one of the translated exponents of a term is beyond M: the rows of W from r on.
 pub fn passes(w: &[i32], n: usize, r: usize, e: Exponents) -> bool
     requires { ⌜ RowsOfW (now w) n r e ⌝ }
-    ensures { λ x. ⌜ x ≡ not (isNone (first (λ g. limits.beyond (rowOfW (now (w .entry)) n (r + g) (e .x))) 0 (n - r))) ⌝ }
+    ensures { λ x. ⌜ x ≡ oneBeyond (now (w .entry)) n r (e .x) ⌝ }
 {
     let d = n - r;
     let mut g = 0;

@@ -25,6 +25,26 @@ module _ (c : tie.Start) where
 free-is : (c : tie.After-is-free) {b : Bool} → c .is-free .result ≡ b → isFree (P (c .before)) (v (c .before)) ≡ b
 free-is c e = sym (c .is-free .ensures) ∙ e
 
+-- ---- of a term that is free, once k followed by v is listed
+module _ (c : tie.After-struct-known) where
+  abbrev listed : tie.After-k-then-v
+  listed = c .before .before
+
+  abbrev not-8 : tie.Else1
+  not-8 = listed .before
+
+  abbrev entry : tie.Start
+  entry = not-8 .before .before
+
+  free : isFree (P entry) (v entry) ≡ true
+  free = free-is (not-8 .before) (not-false _ (not-8 .if1 .left))
+
+module _ (c : tie.After-passes) where
+  passing : {b : Bool} → c .passes .result ≡ b → let s = entry (c .before) in passes (P s) (run (P s)) (v s) ≡ b
+  passing e =
+      let k = c .before in
+      sym (rw (passes-is (entry k .pre .0) (listed k .k-then-v .ensures)) at (c .passes .ensures)) ∙ e
+
 is-free-requires : tie.Need-is-free-requires
 is-free-requires c κs = search needs
 
@@ -38,31 +58,19 @@ add-passes : tie.Need-add-passes
 add-passes c = search needs
 
 passes-requires : tie.Need-passes-requires
-passes-requires c κs =
-    let s = c .before .before .before .before .before in
-    rows-in (s .pre .0) (s .pre .1 .0) (s .pre .1 .1 .0) (c .before .before .k-then-v .ensures)
-
--- ---- once `passes` has answered
-module _ (c : tie.After-passes) where
-  abbrev way : tie.Else1
-  way = c .before .before .before .before
-
-  abbrev entry : tie.Start
-  entry = way .before .before
-
-  free : isFree (P entry) (v entry) ≡ true
-  free = free-is (way .before) (not-false _ (way .if1 .left))
-
-  passing : {b : Bool} → c .passes .result ≡ b → passes (P entry) (run (P entry)) (v entry) ≡ b
-  passing e =
-      let p = entry .pre in
-      sym (rw (passes-is (p .0) (p .1 .0) (p .1 .1 .0) (c .before .before .before .k-then-v .ensures)) at (c .passes .ensures)) ∙ e
+passes-requires c κs = rows-in (entry c .pre .0) (listed c .k-then-v .ensures)
 
 returns-2 : tie.Need-returns-2
-returns-2 c = let s = entry (c .before) in sym (judged-by (P s) (v s) (free (c .before)) (passing (c .before) (c .if2 .taken)))
+returns-2 c =
+    let a = c .before in
+    let s = entry (a .before) in
+    sym (judged-by (P s) (v s) (free (a .before)) (passing a (c .if2 .taken)))
 
 returns-3 : tie.Need-returns-3
-returns-3 c = let s = entry (c .before) in sym (judged-by (P s) (v s) (free (c .before)) (passing (c .before) (c .if2 .left)))
+returns-3 c =
+    let a = c .before in
+    let s = entry (a .before) in
+    sym (judged-by (P s) (v s) (free (a .before)) (passing a (c .if2 .left)))
 
 pub judge-spec : {M : Type 1} → statement M
 judge-spec =

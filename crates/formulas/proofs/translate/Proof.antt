@@ -7,11 +7,11 @@ use lib.ListN.{length, replicate}
 use lib.IntN.{ℤ, pos}
 use denote.Ref.{now}
 use borrow.Author.Needs.{needs}
+use Rattle.rules.specs.Limits.{roomH, roomV, roomW, roomCoefficients, roomExponents}
 use Rattle.checks.specs.Checks.{given, TellsTo6}
-use Rattle.scaling.specs.declared.BuildAnswer.{BuildAnswer}
 use Rattle.scaling.proofs.Called.{Called}
 use Rattle.formulas.proofs.Built.{small-zeros, solved}
-use Rattle.formulas.proofs.TranslateCall.{well-formed, room, good-formula, translate-refused, translate-refused-at-7, translate-passed}
+use Rattle.formulas.proofs.TranslateCall.{well-formed, translatable, translate-refused, translate-refused-at-7, translate-passed}
 use Rattle.formulas.proofs.translate.Statement.{statement}
 use Rattle.formulas.proofs.translate.Tie as tie
 
@@ -33,27 +33,44 @@ module _ (c : tie.After-formula) where
   Tells outputs = let a = entry .args in
       TellsTo6 (a .m) (a .n) (now (a .matrix)) (now (a .moduli)) (length cs) (now (a .exponents)) outputs (c .formula .result)
 
-  told : Tells (leb 64 (length ks) && leb 1024 (length ts))
+  told : Tells (leb roomCoefficients (length ks) && leb roomExponents (length ts))
   told = subst Tells (c .before .both .ensures) (c .formula .ensures)
 
 -- ---- after the build
 module _ (c : tie.After-w2) where
-  abbrev checked : tie.Else1
-  checked = c .before .before .before .before .before .before .before
+  abbrev built : tie.After-build
+  built = c .before .before .before
 
-  abbrev answer : BuildAnswer
-  answer = c .before .before .before .build .result
+  abbrev lent : tie.After-w
+  lent = built .before
+
+  abbrev checked : tie.Else1
+  checked = lent .before .before .before
+
+  abbrev h-after : List ℤ
+  h-after = built .build .last .1 .1 .1 .1 .0
+
+  abbrev v-after : List ℤ
+  v-after = built .build .last .1 .1 .1 .1 .1 .0
 
   abbrev w-after : List ℤ
-  w-after = c .before .before .before .build .last .1 .1 .1 .1 .1 .1 .0
+  w-after = built .build .last .1 .1 .1 .1 .1 .1 .0
 
   called : let a = entry (checked .before) .args in
-      Called (given (a .m) (a .n) (now (a .matrix)) (now (a .moduli))) (replicate 192 (pos 0)) (replicate 576 (pos 0)) (replicate 576 (pos 0)) answer
-      (c .before .before .before .build .last .1 .1 .1 .1 .0) (c .before .before .before .build .last .1 .1 .1 .1 .1 .0) w-after
-  called = record { builds = c .before .before .before .build .ensures; room = refl }
+      Called (given (a .m) (a .n) (now (a .matrix)) (now (a .moduli))) (replicate roomH (pos 0)) (replicate roomV (pos 0)) (replicate roomW (pos 0))
+      (built .build .result) h-after v-after w-after
+  called = record { builds = built .build .ensures; room = refl }
 
-  w-long : length w-after ≡ 576
-  w-long = c .before .before .before .build .kept .1 .1 .1 .1 .1 .1 .0
+  w-long : length w-after ≡ roomW
+  w-long = built .build .kept .1 .1 .1 .1 .1 .1 .0
+
+-- ---- before the rest is left to `translate_checked`
+module _ (c : tie.After-translate-checked-arg2) where
+  abbrev known : tie.After-struct-known
+  known = c .before .before
+
+  abbrev taken : tie.Else2
+  taken = known .before .before
 
 both-requires : tie.Need-both-requires
 both-requires c κs = search needs
@@ -88,14 +105,14 @@ cast-translate-checked c = search needs
 
 translate-checked-requires : tie.Need-translate-checked-requires
 translate-checked-requires c κs =
-    let y = c .before .before .before .before in
+    let y = taken c in
     let b = y .before in
     let x = checked b in
     let f = x .before in (
       well-formed (cs f) (ks f) (ts f) (told f) (x .if1 .left),
       (
-        solved (told f) (x .if1 .left) (called b) (y .if2 .left) (w-long b) (small-zeros 576),
-        (good-formula (cs f) (ks f) (ts f) (told f) (x .if1 .left), room (cs f) (ks f) (ts f) (told f) (x .if1 .left)),
+        solved (told f) (x .if1 .left) (called b) (y .if2 .left) (w-long b) (small-zeros roomW),
+        translatable (cs f) (ks f) (ts f) (told f) (x .if1 .left),
       ),
     )
 
@@ -108,7 +125,7 @@ same-length-2 c = search needs
 returns-3 : tie.Need-returns-3
 returns-3 c =
     let t = c .before .before in
-    let y = t .before .before .before .before .before in
+    let y = taken (t .before) in
     let b = y .before in
     let x = checked b in
     let f = x .before in

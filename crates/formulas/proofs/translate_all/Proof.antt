@@ -1,29 +1,30 @@
 -- `translate_all` meets its contract. The loop's invariant: coefficients and exponents of the terms done are written, the other entries are as they were.
 use mathlib.Core.Path.{_≡_, refl, sym, _∙_, ap}
 use mathlib.Core.List.{List, _++_}
-use Prim.Native.Nat.{ℕ, suc, _+_, _-_, _*_, _≤_}
+use Prim.Native.Nat.{ℕ, suc, _+_, _-_, _*_, _<_, _≤_}
 use native.Mathlib.Omega.{arith}
 use lib.ListN.{length, drop, length-set}
 use lib.Seq.{take-length}
 use lib.IntN.{ℤ, pos}
-use mir.Syntax.{w32, w64}
+use mir.Syntax.{w64}
 use mir.Val.{Fits}
-use mir.Facts.{toZ-ofZ}
 use denote.Ref.{now}
 use borrow.Author.Needs.{needs}
 use Rattle.whole.specs.Lists.{nth, tab}
 use Rattle.whole.specs.Matrix.{Matrix}
+use Rattle.rules.specs.Limits.{mostTerms}
 use Rattle.rules.specs.Problem.{Problem}
 use Rattle.rules.specs.Stages.{run}
 use Rattle.rules.specs.Formulas.{Formula, terms, term, translated, d as groupCount}
 use Rattle.rules.specs.Calls.{grid, filled, translatedExponents}
 use Rattle.theory.proofs.Grid.{length-grid}
 use Rattle.checks.specs.Moduli.{lentProblem}
+use Rattle.checks.proofs.Values.{held}
 use Rattle.scaling.proofs.Filling.{front-turn, filled-front}
 use Rattle.formulas.specs.FormulaPromises.{lentFormula}
 use Rattle.formulas.proofs.GridRows.{begun, begun-none, begun-turn, length-begun}
 use Rattle.formulas.proofs.Translating.{groups-are, few-cols, rank-in, room-for-terms}
-use Rattle.formulas.proofs.Translating.{rows-in, exponent-is, taken-passes, term-place, term-monomial}
+use Rattle.formulas.proofs.Translating.{rows-in, exponent-is, none-beyond, term-place, term-monomial}
 use Rattle.formulas.proofs.translate_all.Statement.{statement}
 use Rattle.formulas.proofs.translate_all.Tie as tie
 
@@ -54,36 +55,47 @@ module _ (c : tie.Start Inv-loop μ-loop) where
 
   room : (t : ℕ) → t ≤ length (now (c .args .coefficients)) → t * d ≤ length out
   room t h =
-      let p = c .pre in
-      omega (arith, p .1 .1 .1 .1 .0 .translated, room-for-terms (p .0) (p .1 .0) (p .1 .1 .0) t (omega (arith, p .1 .1 .1 .0 .few)))
+      let g = c .pre .1 .0 in
+      omega (arith, g .room .translated, room-for-terms (c .pre .0) t (omega (arith, g .wellFormed .few)))
 
   -- what the invariant says of the list's length
   long : (t : ℕ) {a : List ℤ} → t ≤ length (now (c .args .coefficients)) → a ≡ begun d (exponentsOf P f) out t → length a ≡ length out
   long t h e = ap length e ∙ length-begun d (exponentsOf P f) out t (room t h)
 
 -- ---- a turn
-module _ (c : tie.After-k-then-v Inv-loop μ-loop) where
+module _ (c : tie.In-loop Inv-loop μ-loop) where
+  abbrev head : tie.At-loop Inv-loop μ-loop
+  head = c .before
+
   abbrev entry : tie.Start Inv-loop μ-loop
-  entry = c .before .before .before .before .before
+  entry = head .before .before
 
   abbrev t : ℕ
-  t = c .before .before .before .loop .done
+  t = head .loop .done
 
-  turn-room : t * d entry + d entry ≤ length (c .before .before .before .loop .out)
+  few : t < mostTerms
+  few = omega (arith, c .loop-test .taken, entry .pre .1 .0 .wellFormed .few)
+
+  in-kept : t < length (now (entry .args .kept))
+  in-kept = omega (arith, few, entry .pre .1 .0 .room .kept)
+
+  turn-room : t * d entry + d entry ≤ length (head .loop .out)
   turn-room =
-      let l = c .before .before .before .loop in
-      omega (arith, room entry (suc t) (c .before .before .loop-test .taken), long entry t (l .inv .0) (l .inv .1))
+      let l = head .loop in
+      omega (arith, room entry (suc t) (c .loop-test .taken), long entry t (l .inv .0) (l .inv .1))
 
   place-fits : Fits w64 (t * d entry)
-  place-fits =
-      let p = entry .pre in
-      omega (arith, room-for-terms (p .0) (p .1 .0) (p .1 .1 .0) t (omega (arith, p .1 .1 .1 .0 .few)))
+  place-fits = omega (arith, room-for-terms (entry .pre .0) t (omega (arith, few)))
+
+-- its point before the exponents are written
+abbrev turn : tie.After-k-then-v Inv-loop μ-loop → tie.In-loop Inv-loop μ-loop
+turn c = c .before .before
 
 add-cols : tie.Need-add-cols Inv-loop μ-loop
-add-cols c = let p = c .before .pre in omega (arith, few-cols (p .0) (p .1 .0) (p .1 .1 .0))
+add-cols c = omega (arith, few-cols (c .before .pre .0))
 
 sub-d : tie.Need-sub-d Inv-loop μ-loop
-sub-d c = let p = c .before .pre in rank-in (p .0) (p .1 .0) (p .1 .1 .0)
+sub-d c = rank-in (c .before .pre .0)
 
 loop-holds : tie.Need-loop-holds Inv-loop μ-loop
 loop-holds c = let s = c .before in (omega arith, sym (begun-none (d s) (exponentsOf (P s) (f s)) (out s)), refl, refl)
@@ -95,36 +107,33 @@ shared-slice-copy-out-kept : tie.Need-shared-slice-copy-out-kept Inv-loop μ-loo
 shared-slice-copy-out-kept c = search needs
 
 mul-t19 : tie.Need-mul-t19 Inv-loop μ-loop
-mul-t19 c = let p = c .before .before .before .before .pre in omega (arith, c .before .loop-test .taken, p .1 .1 .1 .0 .few)
+mul-t19 c = omega (arith, few (c .before))
 
 slice-set-from-kept : tie.Need-slice-set-from-kept Inv-loop μ-loop
-slice-set-from-kept c =
-    let p = c .before .before .before .before .pre in
-    omega (arith, c .before .loop-test .taken, p .1 .1 .1 .0 .few, p .1 .1 .1 .1 .0 .kept, c .before .before .loop .inv .2)
+slice-set-from-kept c = omega (arith, in-kept (c .before), head (c .before) .loop .inv .2)
 
 mul-k-then-v : tie.Need-mul-k-then-v Inv-loop μ-loop
 mul-k-then-v c =
-    let p = c .before .before .before .before .pre in
-    omega (arith, term-place (p .0) (p .1 .1 .1 .0) (c .before .before .loop .done) (c .before .loop-test .taken))
+    let b = c .before in
+    let p = entry b .pre in
+    omega (arith, term-place (p .0 .wellFormed) (p .1 .0 .wellFormed) (t b) (b .loop-test .taken))
 
 k-then-v-requires : tie.Need-k-then-v-requires Inv-loop μ-loop
 k-then-v-requires c κs =
-    let p = c .before .before .before .before .pre in
-    (p .0, (p .1 .0, term-monomial (p .0) (p .1 .1 .1 .0) (c .before .before .loop .done) (c .before .loop-test .taken)))
+    let b = c .before in
+    let p = entry b .pre in
+    let monomial = term-monomial (p .0 .wellFormed) (p .1 .0 .wellFormed) (t b) (b .loop-test .taken) in
+    (record { wellFormed = p .0 .wellFormed; monomial = monomial }, p .0 .lists)
 
 mul-translate-term : tie.Need-mul-translate-term Inv-loop μ-loop
-mul-translate-term c = place-fits (c .before)
+mul-translate-term c = place-fits (turn (c .before))
 
 translate-term-requires : tie.Need-translate-term-requires Inv-loop μ-loop
 translate-term-requires c κs =
-    let k = c .before in
-    let p = entry k .pre in (
-      rows-in (p .0) (p .1 .0) (p .1 .1 .0) (k .k-then-v .ensures),
-      (
-        taken-passes (p .0) (p .1 .0) (p .1 .1 .0) (k .k-then-v .ensures) (p .1 .1 .1 .1 .1 .each (t k) (k .before .before .loop-test .taken)),
-        turn-room k,
-      ),
-    )
+    let e = c .before .k-then-v .ensures in
+    let b = turn (c .before) in
+    let p = entry b .pre in
+    (rows-in (p .0) e, (none-beyond (p .0) e (p .1 .1 .each (t b) (b .loop-test .taken)), turn-room b))
 
 add-done : tie.Need-add-done Inv-loop μ-loop
 add-done c = search needs
@@ -135,15 +144,15 @@ loop-less c = search needs
 loop-again : tie.Need-loop-again Inv-loop μ-loop
 loop-again c =
     let k = c .before .before .before in
-    let s = entry k in
-    let p = s .pre in
+    let b = turn k in
+    let s = entry b in
     let A = exponentsOf (P s) (f s) in
-    let row = exponent-is (p .0) (p .1 .0) (p .1 .1 .0) (k .k-then-v .ensures) in
-    let l = k .before .before .before .loop in (
-      omega (arith, k .before .before .loop-test .taken),
-      rw (c .before .translate-term .ensures) (begun-turn (d s) A (out s) (t k) _ row (l .inv .1)),
+    let row = exponent-is (s .pre .0) (k .k-then-v .ensures) in
+    let l = head b .loop in (
+      omega (arith, b .loop-test .taken),
+      rw (c .before .translate-term .ensures) (begun-turn (d s) A (out s) (t b) _ row (l .inv .1)),
       length-set (l .kept) _ _ ∙ l .inv .2,
-      front-turn _ _ (l .done) (l .inv .3) (toZ-ofZ {w = w32} (record { sfits = k .before .kept .given })) (omega (arith, k .before .before .loop-test .taken, p .1 .1 .1 .0 .few, p .1 .1 .1 .1 .0 .kept)),
+      front-turn _ _ (l .done) (l .inv .3) (held (nth (now (s .args .coefficients)) (t b)) (k .before .kept .given)) (in-kept b),
     )
 
 same-length : tie.Need-same-length Inv-loop μ-loop
@@ -156,10 +165,9 @@ returns : tie.Need-returns Inv-loop μ-loop
 unfolding translatedExponents
 returns c =
     let s = c .before .before .before in
-    let p = s .pre in
     let A = exponentsOf (P s) (f s) in
     let all : c .before .loop .done ≡ terms (f s) = omega arith in
-    let groups = groups-are (p .0) (p .1 .0) (p .1 .1 .0) in
+    let groups = groups-are (s .pre .0) in
     let g = groupCount (P s) (run (P s)) in
     let cs = now (s .args .coefficients) in (
       (rw all at (c .before .loop .inv .3)) ∙ filled-front (length cs) cs (now (s .args .kept)) (pos 0) (omega arith) ∙ ap (λ l. filled l (now (s .args .kept))) (take-length cs),

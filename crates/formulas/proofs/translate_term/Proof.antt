@@ -36,16 +36,22 @@ module _ (c : tie.Start Inv-loop μ-loop) where
 
 -- ---- a turn
 module _ (c : tie.After-translated Inv-loop μ-loop) where
+  abbrev turn : tie.In-loop Inv-loop μ-loop
+  turn = c .before .before
+
+  abbrev head : tie.At-loop Inv-loop μ-loop
+  head = turn .before
+
   abbrev entry : tie.Start Inv-loop μ-loop
-  entry = c .before .before .before .before
+  entry = head .before
 
   abbrev g : ℕ
-  g = c .before .before .before .loop .g
+  g = head .loop .g
 
   small : natAbs (c .translated .result) ≤ M
   small =
       within (c .translated .result)
-      (ap beyond (c .translated .ensures) ∙ entry .pre .1 .0 .within g (c .before .before .loop-test .taken))
+      (ap beyond (c .translated .ensures) ∙ entry .pre .1 .0 .within g (turn .loop-test .taken))
 
   next : toZ w32 (ofZ w32 (toZ w64 (ofZ w64 (c .translated .result)))) ≡ exponents entry g
   next = narrowed (c .translated .result) small ∙ c .translated .ensures
@@ -77,7 +83,7 @@ mul-t15 : tie.Need-mul-t15 Inv-loop μ-loop
 mul-t15 c = omega (arith, in-room c)
 
 slice-set-from-out : tie.Need-slice-set-from-out Inv-loop μ-loop
-slice-set-from-out c = let l = c .before .before .before .loop in omega (arith, in-room c, long (entry c) (l .g) (l .inv .0) (l .inv .1))
+slice-set-from-out c = let l = head c .loop in omega (arith, in-room c, long (entry c) (l .g) (l .inv .0) (l .inv .1))
 
 add-g : tie.Need-add-g Inv-loop μ-loop
 add-g c = omega (arith, entry c .pre .0 .few)
@@ -88,7 +94,7 @@ loop-less c = search needs
 loop-again : tie.Need-loop-again Inv-loop μ-loop
 loop-again c =
     let s = entry c in
-    (omega arith, written-turn (out s) (s .args .at) (exponents s) (g c) (c .before .before .before .loop .inv .1) (next c) (in-room c))
+    (omega arith, written-turn (out s) (s .args .at) (exponents s) (g c) (head c .loop .inv .1) (next c) (in-room c))
 
 same-length : tie.Need-same-length Inv-loop μ-loop
 same-length c = let l = c .before .loop in long (c .before .before) (l .g) (l .inv .0) (l .inv .1)

@@ -1,7 +1,7 @@
 -- `weigh` meets its contract: the checks say the verdict, and where they pass the weights are written.
 use denote.Ref.{now}
 use borrow.Author.Needs.{needs}
-use Rattle.formulas.proofs.WeighCall.{weigh-refused, well-formed, room, monomial, weigh-passed}
+use Rattle.formulas.proofs.WeighCall.{weigh-refused, the-term, room, weigh-passed}
 use Rattle.formulas.proofs.weigh.Statement.{statement}
 use Rattle.formulas.proofs.weigh.Tie as tie
 
@@ -17,7 +17,7 @@ weigh-checked-requires c κs =
     let f = d .before in
     let o = now (f .before .args .weights) in
     let t = f .formula .ensures in
-    (well-formed o t (d .if1 .left), (monomial o t (d .if1 .left), room o t (d .if1 .left)))
+    (the-term o t (d .if1 .left), room o t (d .if1 .left))
 
 same-length : tie.Need-same-length
 same-length c = search needs

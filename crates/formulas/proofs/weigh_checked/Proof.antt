@@ -39,15 +39,18 @@ module _ (c : tie.Start Inv-loop μ-loop) where
   -- what the invariant says of the list's length
   long : (i : ℕ) {a : List ℤ} → i ≤ length (now (c .args .moduli)) → a ≡ tab i (weight P v) ++ drop i (now (c .args .weights))
       → length a ≡ length (now (c .args .weights))
-  long i h e = ap length e ∙ length-front (now (c .args .weights)) (weight P v) i (omega (arith, c .pre .0 .m-high, c .pre .1 .1))
+  long i h e = ap length e ∙ length-front (now (c .args .weights)) (weight P v) i (omega (arith, c .pre .0 .wellFormed .m-high, c .pre .1))
 
 -- ---- a turn
 module _ (c : tie.After-weight Inv-loop μ-loop) where
+  abbrev head : tie.At-loop Inv-loop μ-loop
+  head = c .before .before
+
   abbrev entry : tie.Start Inv-loop μ-loop
-  entry = c .before .before .before
+  entry = head .before
 
   abbrev i : ℕ
-  i = c .before .before .loop .i
+  i = head .loop .i
 
   small : natAbs (c .weight .result) ≤ M
   small = omega (arith, c .weight .ensures .small)
@@ -56,22 +59,22 @@ module _ (c : tie.After-weight Inv-loop μ-loop) where
   next = narrowed (c .weight .result) small ∙ c .weight .ensures .is ∙ ap (λ v. weight (P entry) v i) (from-front (now (entry .args .exponents)))
 
   in-room : i < length (now (entry .args .weights))
-  in-room = omega (arith, entry .pre .0 .m-high, entry .pre .1 .1)
+  in-room = omega (arith, entry .pre .0 .wellFormed .m-high, entry .pre .1)
 
 loop-holds : tie.Need-loop-holds Inv-loop μ-loop
 loop-holds c = (omega arith, refl)
 
 weight-requires : tie.Need-weight-requires Inv-loop μ-loop
-weight-requires c κs = (c .before .before .pre .0, (c .before .before .pre .1 .0, c .loop-test .taken))
+weight-requires c κs = (c .before .before .pre .0, c .loop-test .taken)
 
 cast-weights : tie.Need-cast-weights Inv-loop μ-loop
 cast-weights c = narrows (c .weight .result) (small c)
 
 mul-t8 : tie.Need-mul-t8 Inv-loop μ-loop
-mul-t8 c = omega (arith, entry c .pre .0 .m-high)
+mul-t8 c = omega (arith, entry c .pre .0 .wellFormed .m-high)
 
 slice-set-from-weights : tie.Need-slice-set-from-weights Inv-loop μ-loop
-slice-set-from-weights c = let l = c .before .before .loop in omega (arith, in-room c, long (entry c) (l .i) (l .inv .0) (l .inv .1))
+slice-set-from-weights c = let l = head c .loop in omega (arith, in-room c, long (entry c) (l .i) (l .inv .0) (l .inv .1))
 
 add-i : tie.Need-add-i Inv-loop μ-loop
 add-i c = search needs
@@ -82,7 +85,7 @@ loop-less c = search needs
 loop-again : tie.Need-loop-again Inv-loop μ-loop
 loop-again c =
     let s = entry c in
-    (omega arith, front-turn (now (s .args .weights)) (weight (P s) (v s)) (i c) (c .before .before .loop .inv .1) (next c) (in-room c))
+    (omega arith, front-turn (now (s .args .weights)) (weight (P s) (v s)) (i c) (head c .loop .inv .1) (next c) (in-room c))
 
 same-length : tie.Need-same-length Inv-loop μ-loop
 same-length c = let l = c .before .loop in long (c .before .before) (l .i) (l .inv .0) (l .inv .1)

@@ -22,11 +22,17 @@ abbrev μ-loop : tie.MeasureT-loop
 
 -- ---- a turn
 module _ (c : tie.After-product Inv-loop μ-loop) where
+  abbrev turn : tie.In-loop Inv-loop μ-loop
+  turn = c .before .before .before
+
+  abbrev head : tie.At-loop Inv-loop μ-loop
+  head = turn .before
+
   abbrev entry : tie.Start Inv-loop μ-loop
-  entry = c .before .before .before .before .before
+  entry = head .before
 
   abbrev j : ℕ
-  j = c .before .before .before .before .loop .j
+  j = head .loop .j
 
   abbrev left : ℕ → ℤ
   left k = nth (now (entry .args .a)) (entry .args .at + k)
@@ -72,7 +78,7 @@ product-requires c κs = search needs
 
 add-sum : tie.Need-add-sum Inv-loop μ-loop
 add-sum c =
-    let l = c .before .before .before .before .loop in
+    let l = head c .loop in
     sum-fits (products c) (j c) (toZ w64 (l .sum)) (c .product .result) (l .inv .1) (next c) (result-fits c) (small c)
 
 add-j : tie.Need-add-j Inv-loop μ-loop
@@ -83,7 +89,7 @@ loop-less c = search needs
 
 loop-again : tie.Need-loop-again Inv-loop μ-loop
 loop-again c =
-    let l = c .before .before .before .before .loop in
+    let l = head c .loop in
     (omega arith, sum-more (products c) (j c) (toZ w64 (l .sum)) (c .product .result) (l .inv .1) (next c) (result-fits c) (small c))
 
 returns : tie.Need-returns Inv-loop μ-loop

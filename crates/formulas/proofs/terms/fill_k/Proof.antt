@@ -4,7 +4,6 @@ use Prim.Native.Nat.{ℕ, _-_, _<_, _≤_}
 use native.Mathlib.Omega.{arith}
 use lib.ListN.{getD}
 use lib.IntN.{ℤ, natAbs}
-use lib.Signed.{quotZ}
 use mir.Syntax.{w64}
 use mir.Val.{toZ, ofZ}
 use mir.Facts.{toZ-ofZ}
@@ -14,7 +13,7 @@ use Rattle.whole.proofs.Division.{quot-le}
 use Rattle.rules.specs.Problem.{Problem, modulus}
 use Rattle.rules.specs.Formulas.{rowTimes, kOf}
 use Rattle.checks.specs.Moduli.{lentProblem}
-use Rattle.formulas.specs.Terms.{from, Modulus}
+use Rattle.formulas.specs.Terms.{from, mostRowTimes, Modulus, kOfRow}
 use Rattle.formulas.proofs.KThenV.{Begins, begins-more, listed-modulus}
 use Rattle.formulas.proofs.Weighing.{row-size}
 use Rattle.formulas.proofs.terms.fill_k.Statement.{statement}
@@ -35,39 +34,37 @@ module _ (c : tie.Start Inv-loop μ-loop) where
 
 -- ---- a turn
 module _ (c : tie.In-loop Inv-loop μ-loop) where
+  abbrev head : tie.At-loop Inv-loop μ-loop
+  head = c .before
+
   abbrev entry : tie.Start Inv-loop μ-loop
-  entry = c .before .before
+  entry = head .before
 
   abbrev at : ℕ
-  at = c .before .loop .c
+  at = head .loop .c
 
   abbrev i : ℕ
   i = getD (entry .args .t5 .rows) at 0
 
   has-modulus : Modulus (P entry) i
-  has-modulus = listed-modulus (entry .pre .0) (entry .pre .1 .0) at (c .loop-test .taken)
+  has-modulus = listed-modulus (entry .pre .0 .wellFormed) (entry .pre .1 .0) at (c .loop-test .taken)
 
-  quot-small : natAbs (quotZ (rowTimes (P entry) (v entry) i) (modulus (P entry) i)) ≤ 160_000_000
-  quot-small =
-      let r = rowTimes (P entry) (v entry) i in
-      omega (arith, quot-le r (modulus (P entry) i), row-size (entry .pre .0) (entry .pre .1 .1 .0) i (has-modulus .row))
+  k-small : natAbs (kOfRow (P entry) (v entry) i) ≤ mostRowTimes
+  k-small = omega (arith, quot-le (rowTimes (P entry) (v entry) i) (modulus (P entry) i), row-size (entry .pre .0) i (has-modulus .row))
 
 module _ (c : tie.After-k-of Inv-loop μ-loop) where
   abbrev turn : tie.In-loop Inv-loop μ-loop
   turn = c .before .before
 
-  read : toZ w64 (ofZ w64 (c .k-of .result)) ≡ quotZ (rowTimes (P (entry turn)) (v (entry turn)) (i turn)) (modulus (P (entry turn)) (i turn))
+  read : toZ w64 (ofZ w64 (c .k-of .result)) ≡ kOfRow (P (entry turn)) (v (entry turn)) (i turn)
   read = toZ-ofZ (record { sfits = c .k-of .ok }) ∙ c .k-of .ensures
 
-  is-k : quotZ (rowTimes (P (entry turn)) (v (entry turn)) (i turn)) (modulus (P (entry turn)) (i turn))
-      ≡ kOf (P (entry turn)) (v (entry turn)) (at turn)
+  is-k : kOfRow (P (entry turn)) (v (entry turn)) (i turn) ≡ kOf (P (entry turn)) (v (entry turn)) (at turn)
   unfolding kOf
-  is-k =
-      let s = entry turn in
-      ap (λ i. quotZ (rowTimes (P s) (v s) i) (modulus (P s) i)) (s .pre .1 .0 .rows (at turn) (turn .loop-test .taken))
+  is-k = let s = entry turn in ap (kOfRow (P s) (v s)) (s .pre .1 .0 .rows (at turn) (turn .loop-test .taken))
 
 loop-holds : tie.Need-loop-holds Inv-loop μ-loop
-loop-holds c = (omega arith, record { all = search needs; entries = λ k l. absurd (omega arith); small = c .pre .1 .1 .1 .small })
+loop-holds c = (omega arith, record { all = search needs; entries = λ k l. absurd (omega arith); small = c .pre .1 .1 .small })
 
 mul-i : tie.Need-mul-i Inv-loop μ-loop
 mul-i c = omega (arith, entry c .pre .1 .0 .few)
@@ -76,7 +73,7 @@ element-copy-out-i : tie.Need-element-copy-out-i Inv-loop μ-loop
 element-copy-out-i c = omega (arith, entry c .pre .1 .0 .few)
 
 k-of-requires : tie.Need-k-of-requires Inv-loop μ-loop
-k-of-requires c κs = let s = entry (c .before) in (s .pre .0, (s .pre .1 .1 .0, has-modulus (c .before)))
+k-of-requires c κs = (entry (c .before) .pre .0, has-modulus (c .before))
 
 mul-t14 : tie.Need-mul-t14 Inv-loop μ-loop
 mul-t14 c = omega (arith, entry (turn c) .pre .1 .0 .few)
@@ -93,10 +90,10 @@ loop-less c = search needs
 loop-again : tie.Need-loop-again Inv-loop μ-loop
 loop-again c =
     let s = entry (turn c) in
-    let l = turn c .before .loop in
+    let l = head (turn c) .loop in
     let x = toZ w64 (ofZ w64 (c .k-of .result)) in
     let in-array : l .c < 24 = omega (arith, s .pre .1 .0 .few) in
-    (omega arith, begins-more (kOf (P s) (v s)) (l .c) (l .e .x) x (l .inv .1) in-array (read c ∙ is-k c) (rw (read c) (quot-small (turn c))))
+    (omega arith, begins-more (kOf (P s) (v s)) (l .c) (l .e .x) x (l .inv .1) in-array (read c ∙ is-k c) (rw (read c) (k-small (turn c))))
 
 returns : tie.Need-returns Inv-loop μ-loop
 returns c =

@@ -44,21 +44,32 @@ module _ (c : tie.Start Inv-loop μ-loop) where
   abbrev v : ℕ → ℤ
   v = from (now (c .args .es)) (c .args .start)
 
+-- ---- a turn
+module _ (c : tie.After-weight Inv-loop μ-loop) where
+  abbrev head : tie.At-loop Inv-loop μ-loop
+  head = c .before .before
+
+  abbrev entry : tie.Start Inv-loop μ-loop
+  entry = head .before
+
+  here : {b : Bool} → eqb (ofZ w64 (c .weight .result)) 0 ≡ b → bad (P entry) (v entry) (head .loop .i) ≡ not b
+  here = tested (c .weight .ensures) (record { sfits = c .weight .ok })
+
 loop-holds : tie.Need-loop-holds Inv-loop μ-loop
 loop-holds c = (omega arith, first-start _ 0 0 (omega arith))
 
 weight-requires : tie.Need-weight-requires Inv-loop μ-loop
-weight-requires c κs = (c .before .before .pre .0, (c .before .before .pre .1, c .loop-test .taken))
+weight-requires c κs = (c .before .before .pre, c .loop-test .taken)
 
 returns : tie.Need-returns Inv-loop μ-loop
 unfolding isFree
 returns c =
-    let s = c .before .before .before .before in
-    let l = c .before .before .before .loop in
-    let w = c .before .weight in
-    let here = tested (w .ensures) (record { sfits = w .ok }) (ne-eqb (ofZ w64 (w .result)) 0 (c .if1 .taken)) in
+    let w = c .before in
+    let s = entry w in
+    let l = head w .loop in
+    let has-weight = here w (ne-eqb (ofZ w64 (w .weight .result)) 0 (c .if1 .taken)) in
     let rows = length (now (s .args .moduli)) in
-    sym (ap isNone (first-hit (bad (P s) (v s)) 0 (l .i) rows (omega arith) (c .before .before .loop-test .taken) (l .inv .1) here))
+    sym (ap isNone (first-hit (bad (P s) (v s)) 0 (l .i) rows (omega arith) (w .before .loop-test .taken) (l .inv .1) has-weight))
 
 add-i : tie.Need-add-i Inv-loop μ-loop
 add-i c = search needs
@@ -68,10 +79,10 @@ loop-less c = search needs
 
 loop-again : tie.Need-loop-again Inv-loop μ-loop
 loop-again c =
-    let l = c .before .before .before .loop in
-    let w = c .before .weight in
-    let here = tested (w .ensures) (record { sfits = w .ok }) (eq-eqb (ofZ w64 (w .result)) 0 (c .if1 .left)) in
-    (omega arith, rw add-one (first-more _ 0 (l .i) (omega arith) (l .inv .1) here))
+    let w = c .before in
+    let l = head w .loop in
+    let no-weight = here w (eq-eqb (ofZ w64 (w .weight .result)) 0 (c .if1 .left)) in
+    (omega arith, rw add-one (first-more _ 0 (l .i) (omega arith) (l .inv .1) no-weight))
 
 returns-2 : tie.Need-returns-2 Inv-loop μ-loop
 unfolding isFree

@@ -3,7 +3,6 @@ use mathlib.Core.Path.{_≡_}
 use Prim.Native.Nat.{ℕ}
 use native.Mathlib.Omega.{arith}
 use lib.IntN.{ℤ}
-use lib.Signed.{quotZ}
 use mir.Syntax.{w32, w64}
 use mir.Val.{SFits, toZ, ofZ}
 use mir.Facts.{toZ-ofZ}
@@ -12,7 +11,7 @@ use borrow.Author.Needs.{needs}
 use Rattle.rules.specs.Problem.{Problem, modulus}
 use Rattle.rules.specs.Formulas.{rowTimes}
 use Rattle.checks.specs.Moduli.{lentProblem}
-use Rattle.formulas.specs.Terms.{from}
+use Rattle.formulas.specs.Terms.{from, kOfRow}
 use Rattle.checks.proofs.Values.{cast-fits, widened, quot-fits}
 use Rattle.formulas.proofs.Sums.{divides64}
 use Rattle.formulas.proofs.Weighing.{place-fits, row-products, row-size, row-read, modulus-fits}
@@ -30,19 +29,19 @@ module _ (c : tie.Start) where
   i = c .args .i
 
   p-fits : SFits w32 (modulus P i)
-  p-fits = modulus-fits (c .pre .0) (c .pre .1 .0) i (c .pre .1 .1 .row)
+  p-fits = modulus-fits (c .pre .0) i (c .pre .1 .row)
 
-  k-fits : SFits w64 (quotZ (rowTimes P v i) (modulus P i))
-  k-fits = quot-fits (rowTimes P v i) (modulus P i) (omega (arith, row-size (c .pre .0) (c .pre .1 .0) i (c .pre .1 .1 .row)))
+  k-fits : SFits w64 (kOfRow P v i)
+  k-fits = quot-fits (rowTimes P v i) (modulus P i) (omega (arith, row-size (c .pre .0) i (c .pre .1 .row)))
 
-row : (c : tie.After-dot) → toZ w64 (ofZ w64 (c .dot .result)) ≡ rowTimes (P (c .before)) (v (c .before)) (i (c .before))
-row c = let p = c .before .pre in row-read (p .0) (p .1 .0) (i (c .before)) (p .1 .1 .row) (c .dot .result) (c .dot .ensures)
+row : (c : tie.After-dot) → let s = c .before in toZ w64 (ofZ w64 (c .dot .result)) ≡ rowTimes (P s) (v s) (i s)
+row c = let s = c .before in row-read (s .pre .0) (i s) (s .pre .1 .row) (c .dot .result) (c .dot .ensures)
 
 mul-dot : tie.Need-mul-dot
-mul-dot c = place-fits (c .pre .0) (c .pre .1 .0) (i c) (c .pre .1 .1 .row)
+mul-dot c = place-fits (c .pre .0) (i c) (c .pre .1 .row)
 
 dot-requires : tie.Need-dot-requires
-dot-requires c κs = row-products (c .pre .0) (c .pre .1 .0) (i c) (c .pre .1 .1 .row)
+dot-requires c κs = row-products (c .pre .0) (i c) (c .pre .1 .row)
 
 mul-result : tie.Need-mul-result
 mul-result c = search needs
@@ -57,7 +56,7 @@ div-result : tie.Need-div-result
 div-result c =
     let s = c .before .before in
     let p = s .pre in
-    divides64 (modulus (P s) (i s)) (row (c .before)) (row-size (p .0) (p .1 .0) (i s) (p .1 .1 .row)) (p-fits s) (p .1 .1 .filled)
+    divides64 (modulus (P s) (i s)) (row (c .before)) (row-size (p .0) (i s) (p .1 .row)) (p-fits s) (p .1 .filled)
 
 returns : tie.Need-returns
 returns c =

@@ -12,7 +12,7 @@ use Rattle.rules.specs.Problem.{Problem}
 use Rattle.rules.specs.Formulas.{kThenV}
 use Rattle.theory.proofs.Weights.{kThenV-rest}
 use Rattle.checks.specs.Moduli.{lentProblem}
-use Rattle.formulas.specs.Terms.{from}
+use Rattle.formulas.specs.Terms.{from, mostRowTimes}
 use Rattle.checks.proofs.Values.{held}
 use Rattle.formulas.proofs.KThenV.{Begins, begins-k, begins-more, zeros-small}
 use Rattle.formulas.proofs.terms.k_then_v.Statement.{statement}
@@ -33,26 +33,29 @@ module _ (c : tie.Start Inv-loop μ-loop) where
 
 -- ---- a turn
 module _ (c : tie.After-wide Inv-loop μ-loop) where
+  abbrev head : tie.At-loop Inv-loop μ-loop
+  head = c .before .before .before
+
   abbrev entry : tie.Start Inv-loop μ-loop
-  entry = c .before .before .before .before .before
+  entry = head .before .before
 
   abbrev j : ℕ
-  j = c .before .before .before .loop .j
+  j = head .loop .j
 
   read : toZ w64 (ofZ w64 (c .wide .result)) ≡ v entry j
   read = toZ-ofZ (record { sfits = c .wide .ok }) ∙ c .wide .ensures ∙ held (v entry j) (c .before .wide-arg .given)
 
   is-next : v entry j ≡ kThenV (P entry) (v entry) (entry .args .q .s + j)
-  is-next = sym (kThenV-rest (P entry) (v entry) j) ∙ ap (λ k. kThenV (P entry) (v entry) (k + j)) (sym (entry .pre .1 .0 .count))
+  is-next = sym (kThenV-rest (P entry) (v entry) j) ∙ ap (λ k. kThenV (P entry) (v entry) (k + j)) (sym (entry .pre .1 .count))
 
   in-array : entry .args .q .s + j < 24
-  in-array = omega (arith, entry .pre .0 .n-high, entry .pre .1 .0 .few)
+  in-array = omega (arith, entry .pre .0 .wellFormed .n-high, entry .pre .1 .few)
 
 fill-k-requires : tie.Need-fill-k-requires Inv-loop μ-loop
-fill-k-requires c κs = (c .pre .0, (c .pre .1 .0, (c .pre .1 .1, record { small = zeros-small 24 })))
+fill-k-requires c κs = (c .pre .0, (c .pre .1, record { small = zeros-small 24 }))
 
 loop-holds : tie.Need-loop-holds Inv-loop μ-loop
-loop-holds c = (omega arith, begins-k (c .fill-k .ensures) (search needs) (c .before .pre .1 .0 .count))
+loop-holds c = (omega arith, begins-k (c .fill-k .ensures) (search needs) (c .before .pre .1 .count))
 
 add-wide : tie.Need-add-wide Inv-loop μ-loop
 add-wide c = search needs
@@ -84,16 +87,16 @@ loop-less c = search needs
 loop-again : tie.Need-loop-again Inv-loop μ-loop
 loop-again c =
     let s = entry c in
-    let l = c .before .before .before .loop in
+    let l = head c .loop in
     let x = toZ w64 (ofZ w64 (c .wide .result)) in
     let one-more : s .args .q .s + (j c + 1) ≡ s .args .q .s + j c + 1 = omega arith in
-    let small : natAbs x ≤ 160_000_000 = rw (read c) (omega (arith, s .pre .1 .1 .small (s .args .start + j c))) in
+    let small : natAbs x ≤ mostRowTimes = rw (read c) (omega (arith, s .pre .0 .monomial .small (s .args .start + j c))) in
     (omega arith, rw one-more (begins-more (kThenV (P s) (v s)) (s .args .q .s + j c) (l .e .x) x (l .inv .1) (in-array c) (read c ∙ is-next c) small))
 
 returns : tie.Need-returns Inv-loop μ-loop
 returns c =
     let b = c .before .loop .inv .1 in
-    record { entries = λ k h. b .entries k (omega (arith, c .before .before .before .pre .1 .0 .count)); small = b .small }
+    record { entries = λ k h. b .entries k (omega (arith, c .before .before .before .pre .1 .count)); small = b .small }
 
 pub k-then-v-spec : {M : Type 1} → statement M
 k-then-v-spec =

@@ -32,10 +32,21 @@ abbrev μ-loop : tie.MeasureT-loop
 abbrev bigOf : tie.Start Inv-loop μ-loop → ℕ → Bool
 bigOf c = big (now (c .args .w)) (c .args .n) (c .args .r) (c .args .e .x)
 
-tested : (c : tie.After-beyond Inv-loop μ-loop) → c .beyond .result ≡ bigOf (c .before .before .before .before) (c .before .before .before .loop .g)
-tested c =
-    let fits : SFits w64 (c .before .translated .result) = record { sfits = c .before .translated .ok } in
-    c .beyond .ensures ∙ ap beyond (toZ-ofZ fits ∙ c .before .translated .ensures)
+-- ---- a turn
+module _ (c : tie.After-beyond Inv-loop μ-loop) where
+  abbrev turn : tie.In-loop Inv-loop μ-loop
+  turn = c .before .before
+
+  abbrev head : tie.At-loop Inv-loop μ-loop
+  head = turn .before
+
+  abbrev entry : tie.Start Inv-loop μ-loop
+  entry = head .before
+
+  tested : c .beyond .result ≡ bigOf entry (head .loop .g)
+  tested =
+      let fits : SFits w64 (c .before .translated .result) = record { sfits = c .before .translated .ok } in
+      c .beyond .ensures ∙ ap beyond (toZ-ofZ fits ∙ c .before .translated .ensures)
 
 sub-d : tie.Need-sub-d Inv-loop μ-loop
 sub-d c = search needs
@@ -56,11 +67,12 @@ beyond-requires c κs = search needs
 
 returns : tie.Need-returns Inv-loop μ-loop
 returns c =
-    let s = c .before .before .before .before .before in
-    let l = c .before .before .before .before .loop in
-    let here : bigOf s (l .g) ≡ true = sym (tested (c .before)) ∙ c .if1 .taken in
+    let b = c .before in
+    let s = entry b in
+    let l = head b .loop in
+    let here : bigOf s (l .g) ≡ true = sym (tested b) ∙ c .if1 .taken in
     let d = s .args .n - s .args .r in
-    sym (ap (λ x. not (isNone x)) (first-hit (bigOf s) 0 (l .g) d (omega arith) (c .before .before .before .loop-test .taken) (l .inv .1) here))
+    sym (ap (λ x. not (isNone x)) (first-hit (bigOf s) 0 (l .g) d (omega arith) (turn b .loop-test .taken) (l .inv .1) here))
 
 add-g : tie.Need-add-g Inv-loop μ-loop
 add-g c = search needs
@@ -70,7 +82,7 @@ loop-less c = search needs
 
 loop-again : tie.Need-loop-again Inv-loop μ-loop
 loop-again c =
-    let l = c .before .before .before .before .loop in
+    let l = head (c .before) .loop in
     (omega arith, rw add-one (first-more _ 0 (l .g) (omega arith) (l .inv .1) (sym (tested (c .before)) ∙ c .if1 .left)))
 
 returns-2 : tie.Need-returns-2 Inv-loop μ-loop

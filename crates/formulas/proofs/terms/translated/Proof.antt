@@ -32,11 +32,14 @@ place c =
 
 -- ---- a turn
 module _ (c : tie.After-product64-arg2 Inv-loop μ-loop) where
+  abbrev head : tie.At-loop Inv-loop μ-loop
+  head = c .before .before .before
+
   abbrev entry : tie.Start Inv-loop μ-loop
-  entry = c .before .before .before .before
+  entry = head .before
 
   abbrev at : ℕ
-  at = c .before .before .before .loop .c
+  at = head .loop .c
 
   abbrev left : ℕ → ℤ
   left k = nth (now (entry .args .w)) (entry .args .row * entry .args .n + k)
@@ -86,7 +89,7 @@ product64-requires c κs = rw (toZ-ofZ (right-fits c)) (entry c .pre .e-small (a
 add-sum : tie.Need-add-sum Inv-loop μ-loop
 add-sum c =
     let b = c .before in
-    let l = c .before .before .before .before .loop in
+    let l = head b .loop in
     sum-fits (products b) (at b) (toZ w64 (l .sum)) (c .product64 .result) (l .inv .1) (next c) (result-fits c) (small b)
 
 add-c : tie.Need-add-c Inv-loop μ-loop
@@ -98,7 +101,7 @@ loop-less c = search needs
 loop-again : tie.Need-loop-again Inv-loop μ-loop
 loop-again c =
     let b = c .before in
-    let l = c .before .before .before .before .loop in
+    let l = head b .loop in
     (omega arith, sum-more (products b) (at b) (toZ w64 (l .sum)) (c .product64 .result) (l .inv .1) (next c) (result-fits c) (small b))
 
 returns : tie.Need-returns Inv-loop μ-loop
