@@ -30,7 +30,7 @@ use Rattle.checks.specs.Checks.{Says, takes, refuses}
 use Rattle.scaling.specs.BuildPromise.{Builds}
 use Rattle.scaling.proofs.Called.{Called, build-says, build-taken, build-well-formed}
 use Rattle.checks.proofs.Verdicts.{says-taken, says-refused}
-use Rattle.gauges.specs.Gauging.{column, Table}
+use Rattle.gauges.specs.Gauging.{column, Table, evaluateOf}
 
 -- ---- two verdicts: of a build with room enough, and of a call that also asks for the count; `own` are its later checks
 abbrev ofBuild : (sizes fits : Bool) → List Check → Verdict
@@ -175,8 +175,7 @@ module _ {P : Problem} {h v w : List ℤ} {r : BuildAnswer} {h₁ v₁ w₁ : Li
         ∙ table-filled (N P) (N P) (U (run P)) v (s P + j) (run P .rank + g) (omega (arith, B .moduli)) (omega (arith, groups-are))
 
     pub evaluated : (R : Readings) (g : ℕ) → R .count ≡ P .n
-        → let x : ℕ → ℤ = column v₁ (r .moduli * cols + r .rank) cols g in
-        gaugedBy (P .n) x (reading R) (verdict (ownChecks (P .n) (cols - r .rank) x (reading R) g)) ≡ gaugeOf P R g
+        → evaluateOf (P .n) (cols - r .rank) (column v₁ (r .moduli * cols + r .rank) cols g) (reading R) g ≡ gaugeOf P R g
     evaluated R g c =
         rw groups-are
         (own-same (P .n) (column v₁ (r .moduli * cols + r .rank) cols g) (group P (run P) g) (reading R) (reading R) (d P (run P)) g

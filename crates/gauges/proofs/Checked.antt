@@ -12,8 +12,9 @@ use Rattle.rules.specs.Search.{none, found, first}
 use Rattle.rules.specs.Formulas.{isNone}
 use Rattle.rules.specs.Calls.{Check, Verdict, taken, refused, verdict, unlessAt}
 use Rattle.rules.specs.Gauges.{groupValue, isOut, nought, Gauged, value, refusal, gaugedBy}
-use Rattle.rules.specs.Gauges.{readingsCheck, groupCheck, powersCheck, runningCheck, ownChecks}
+use Rattle.rules.specs.Gauges.{readingsCheck, groupCheck, powersCheck, runningCheck}
 use Rattle.theory.proofs.LastValue.{last-tells}
+use Rattle.gauges.specs.Gauging.{evaluateOf}
 
 passes : (c : Check) (cs : List Check) → c .fault ≡ none → verdict (c ∷ cs) ≡ verdict cs
 passes c cs e = rw e
@@ -32,7 +33,7 @@ module _ (n d g : ℕ) (v : ℕ → ℤ) (x : ℕ → Float) where
   from24 = groupCheck d g ∷ from12
 
   abbrev answer : Gauged
-  answer = gaugedBy n v x (verdict (ownChecks n d v x g))
+  answer = evaluateOf n d v x g
 
   pub bad-reading : (k : ℕ) → first (λ j. not (positive (x j))) 0 n ≡ found k → answer ≡ refusal 11 k (x k)
   bad-reading k e = ap (gaugedBy n v x) (stops (readingsCheck n x) from24 k e)

@@ -5,11 +5,13 @@ use mathlib.Core.List.{List}
 use Prim.Native.Nat.{ℕ, _+_, _*_, _<_, _≤_}
 use lib.ListN.{length}
 use lib.IntN.{ℤ}
+use lib.Ieee.{Float}
 use Rattle.whole.specs.Lists.{nth}
 use Rattle.scaling.specs.Strided.{Within}
 use Rattle.rules.specs.Search.{none, found, first}
+use Rattle.rules.specs.Calls.{verdict}
 use Rattle.rules.specs.Gauges as rules
-use Rattle.rules.specs.Gauges.{value, refusal}
+use Rattle.rules.specs.Gauges.{ownChecks, value, refusal, gaugedBy}
 use Rattle.gauges.specs.declared.Readings as readings
 use Rattle.gauges.specs.declared.Gauged as declared
 use Rattle.gauges.specs.declared.Gauged.the-variants.{Value, Refused}
@@ -30,6 +32,10 @@ column es first stride g = entries es (first + g) stride
 pub record Table (n groups : ℕ) (es : List ℤ) (first stride : ℕ) : Type 0 where
   pub begins : first + groups ≤ length es
   pub columns : (g : ℕ) → g < groups → Within es (first + g) stride n
+
+-- ---- what the four own checks and the operations come to, of group g among d, with its exponents and the readings
+abbrev pub evaluateOf : (n d : ℕ) (exponents : ℕ → ℤ) (readings : ℕ → Float) (group : ℕ) → rules.Gauged
+evaluateOf n d v x g = gaugedBy n v x (verdict (ownChecks n d v x g))
 
 -- ---- a search: r is the first index below n where a test holds; n where it holds nowhere
 pub record FirstOf (test : ℕ → Bool) (n r : ℕ) : Type 0 where

@@ -1,15 +1,15 @@
 // One group of a problem, worked out from gauge readings (order 2).
 ghost use mathlib.Core.Path.{_≡_};
 ghost use Prim.Native.Nat.{_≤_};
-ghost use Rattle.rules.specs.Calls.{verdict};
-ghost use Rattle.rules.specs.Gauges.{read, nought, refusal, ownChecks, gaugedBy, gaugeOf};
+ghost use Rattle.rules.specs.Gauges.{read, nought, refusal, gaugeOf};
 ghost use Rattle.checks.specs.Checks.{given};
-ghost use Rattle.gauges.specs.Gauging.{column, Table, told, setOf};
+ghost use Rattle.gauges.specs.Gauging.{column, Table, evaluateOf, told, setOf};
+
+mod values;
+
 use checks::ROOM_H;
 use checks::ROOM_V;
 use checks::ROOM_W;
-
-mod values;
 
 // A set of readings: up to sixteen values, and how many there are.
 pub struct Readings {
@@ -50,7 +50,7 @@ fn evaluate(
 ) -> Gauged
     requires { ⌜ n ≤ 16 ⌝ }
     requires { ⌜ Table n groups (now v) first cols ⌝ }
-    ensures { λ r. ⌜ told r ≡ gaugedBy n (column (now (v .entry)) first cols group) (read (readings .values)) (verdict (ownChecks n groups (column (now (v .entry)) first cols group) (read (readings .values)) group)) ⌝ }
+    ensures { λ r. ⌜ told r ≡ evaluateOf n groups (column (now (v .entry)) first cols group) (read (readings .values)) group ⌝ }
 {
     let values = readings.values;
     let k = values::first_bad(values, n);

@@ -6,6 +6,7 @@ use denote.Ref.{now}
 use borrow.Author.Needs.{needs}
 use lib.ListN.{length, replicate}
 use lib.IntN.{ℤ, pos}
+use Rattle.rules.specs.Limits.{roomH, roomV, roomW}
 use Rattle.rules.specs.Problem.{Problem}
 use Rattle.rules.specs.Gauges as rules
 use Rattle.scaling.specs.declared.BuildAnswer.{BuildAnswer}
@@ -19,8 +20,14 @@ use Rattle.gauges.proofs.gauge.Tie as tie
 
 -- ---- after the build
 module _ (c : tie.After-w2) where
+  abbrev built : tie.After-build
+  built = c .before .before .before
+
+  abbrev zeroed : tie.After-w
+  zeroed = built .before
+
   abbrev entry : tie.Start
-  entry = c .before .before .before .before .before .before .before
+  entry = zeroed .before .before .before
 
   abbrev P : Problem
   P = given (entry .args .m) (entry .args .n) (now (entry .args .matrix)) (now (entry .args .moduli))
@@ -29,29 +36,33 @@ module _ (c : tie.After-w2) where
   R = setOf (entry .args .readings)
 
   abbrev answer : BuildAnswer
-  answer = c .before .before .before .build .result
+  answer = built .build .result
 
   abbrev h-after : List ℤ
-  h-after = c .before .before .before .build .last .1 .1 .1 .1 .0
+  h-after = built .build .last .1 .1 .1 .1 .0
 
   abbrev v-after : List ℤ
-  v-after = c .before .before .before .build .last .1 .1 .1 .1 .1 .0
+  v-after = built .build .last .1 .1 .1 .1 .1 .0
 
   abbrev w-after : List ℤ
-  w-after = c .before .before .before .build .last .1 .1 .1 .1 .1 .1 .0
+  w-after = built .build .last .1 .1 .1 .1 .1 .1 .0
 
-  called : Called P (replicate 192 (pos 0)) (replicate 576 (pos 0)) (replicate 576 (pos 0)) answer h-after v-after w-after
-  called = record { builds = c .before .before .before .build .ensures; room = refl }
+  called : Called P (replicate roomH (pos 0)) (replicate roomV (pos 0)) (replicate roomW (pos 0)) answer h-after v-after w-after
+  called = record { builds = built .build .ensures; room = refl }
 
-  v-long : length v-after ≡ 576
-  v-long = c .before .before .before .build .kept .1 .1 .1 .1 .1 .0
+  v-long : length v-after ≡ roomV
+  v-long = built .build .kept .1 .1 .1 .1 .1 .0
 
--- past the three refusals
-abbrev built : tie.After-struct-known3 → tie.Else3
-built c = c .before .before .before .before
+-- ---- past the three refusals, where `evaluate` is called
+module _ (c : tie.After-struct-known3) where
+  abbrev counted : tie.After-struct-known2
+  counted = c .before .before
 
-abbrev lent : tie.Else3 → tie.After-w2
-lent c = c .before .before .before
+  abbrev accepted : tie.Else3
+  accepted = counted .before .before
+
+  abbrev returned : tie.After-w2
+  returned = accepted .before .before .before
 
 slice-aggregate-build : tie.Need-slice-aggregate-build
 slice-aggregate-build c = search needs
@@ -107,27 +118,31 @@ cast-evaluate : tie.Need-cast-evaluate
 cast-evaluate c = search needs
 
 mul-evaluate : tie.Need-mul-evaluate
-mul-evaluate c = let e = built c in omega (arith, table (called (lent e)) (e .if3 .left) (v-long (lent e)) .begins, v-long (lent e))
+mul-evaluate c =
+    let b = returned c in
+    omega (arith, table (called b) (accepted c .if3 .left) (v-long b) .begins, v-long b)
 
 add-evaluate : tie.Need-add-evaluate
-add-evaluate c = let e = built c in omega (arith, table (called (lent e)) (e .if3 .left) (v-long (lent e)) .begins, v-long (lent e))
+add-evaluate c =
+    let b = returned c in
+    omega (arith, table (called b) (accepted c .if3 .left) (v-long b) .begins, v-long b)
 
 sub-evaluate : tie.Need-sub-evaluate
-sub-evaluate c = let e = built c in rank-in (called (lent e)) (e .if3 .left)
+sub-evaluate c = rank-in (called (returned c)) (accepted c .if3 .left)
 
 cast-evaluate-2 : tie.Need-cast-evaluate-2
-cast-evaluate-2 c = let e = built c in omega (arith, few-cols (called (lent e)) (e .if3 .left))
+cast-evaluate-2 c = omega (arith, few-cols (called (returned c)) (accepted c .if3 .left))
 
 evaluate-requires : tie.Need-evaluate-requires
 evaluate-requires c κs =
-    let e = built c in
-    let K = called (lent e) in
-    (well-formed K (e .if3 .left) .n-high, table K (e .if3 .left) (v-long (lent e)))
+    let b = returned c in
+    let e = accepted c .if3 .left in
+    (well-formed (called b) e .n-high, table (called b) e (v-long b))
 
 returns-4 : tie.Need-returns-4
 returns-4 c =
-    let e = built (c .before) in
-    let b = lent e in
+    let e = accepted (c .before) in
+    let b = returned (c .before) in
     rw (c .evaluate .ensures) (evaluated (called b) (e .if3 .left) (R b) (entry b .args .group) (e .before .if2 .left))
 
 pub gauge-spec : {M : Type 1} → statement M

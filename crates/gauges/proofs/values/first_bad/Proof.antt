@@ -24,6 +24,14 @@ Inv-loop n values j₀ j = (j ≤ n) × (n ≤ 16) × (first (bad values) 0 j �
 abbrev μ-loop : tie.MeasureT-loop
 μ-loop n values j₀ j = n - j
 
+-- ---- a turn
+module _ (c : tie.After-good2 Inv-loop μ-loop) where
+  abbrev head : tie.At-loop Inv-loop μ-loop
+  head = c .before .before
+
+  abbrev entry : tie.Start Inv-loop μ-loop
+  entry = head .before
+
 loop-holds : tie.Need-loop-holds Inv-loop μ-loop
 loop-holds c = (search needs, search needs, first-start _ 0 0 (omega arith))
 
@@ -38,9 +46,10 @@ good-requires c κs = search needs
 
 returns : tie.Need-returns Inv-loop μ-loop
 returns c =
-    let s = c .before .before .before .before .args in
-    let l = c .before .before .before .loop in
-    found-here (bad (s .t1)) (s .n) (l .j) (l .inv .2) (c .before .before .loop-test .taken) (ap not (sym (c .before .good2 .ensures)) ∙ c .if1 .taken)
+    let g = c .before in
+    let s = entry g .args in
+    let l = head g .loop in
+    found-here (bad (s .t1)) (s .n) (l .j) (l .inv .2) (g .before .loop-test .taken) (ap not (sym (g .good2 .ensures)) ∙ c .if1 .taken)
 
 add-j : tie.Need-add-j Inv-loop μ-loop
 add-j c = search needs
@@ -50,7 +59,7 @@ loop-less c = search needs
 
 loop-again : tie.Need-loop-again Inv-loop μ-loop
 loop-again c =
-    let l = c .before .before .before .loop in
+    let l = head (c .before) .loop in
     (search needs, search needs, rw add-one (first-more _ 0 (l .j) (omega arith) (l .inv .2) (ap not (sym (c .before .good2 .ensures)) ∙ c .if1 .left)))
 
 returns-2 : tie.Need-returns-2 Inv-loop μ-loop

@@ -33,15 +33,18 @@ inside c = c .before .before .pre .each (c .before .loop .j) (c .loop-test .take
 
 -- ---- a turn
 module _ (c : tie.After-in-range Inv-loop μ-loop) where
+  abbrev head : tie.At-loop Inv-loop μ-loop
+  head = c .before .before .before
+
   abbrev entry : tie.Start Inv-loop μ-loop
-  entry = c .before .before .before .before
+  entry = head .before
 
   abbrev test : ℕ → Bool
   test = large (now (entry .args .es)) (entry .args .at) (entry .args .stride)
 
-  tested : test (c .before .before .before .loop .j) ≡ not (c .in-range .result)
+  tested : test (head .loop .j) ≡ not (c .in-range .result)
   tested =
-      let exponent = entries (now (entry .args .es)) (entry .args .at) (entry .args .stride) (c .before .before .before .loop .j) in
+      let exponent = entries (now (entry .args .es)) (entry .args .at) (entry .args .stride) (head .loop .j) in
       sym (ap not (c .in-range .ensures ∙ ap powerInRange (held exponent (c .before .in-range-arg .given))))
 
 loop-holds : tie.Need-loop-holds Inv-loop μ-loop
@@ -65,7 +68,7 @@ in-range-requires c κs = search needs
 returns : tie.Need-returns Inv-loop μ-loop
 returns c =
     let b = c .before in
-    let l = b .before .before .before .loop in
+    let l = head b .loop in
     found-here (test b) (entry b .args .n) (l .j) (l .inv .1) (b .before .before .loop-test .taken) (tested b ∙ c .if1 .taken)
 
 add-j : tie.Need-add-j Inv-loop μ-loop
@@ -77,7 +80,7 @@ loop-less c = search needs
 loop-again : tie.Need-loop-again Inv-loop μ-loop
 loop-again c =
     let b = c .before in
-    let l = b .before .before .before .loop in
+    let l = head b .loop in
     (search needs, rw add-one (first-more (test b) 0 (l .j) (omega arith) (l .inv .1) (tested b ∙ c .if1 .left)))
 
 returns-2 : tie.Need-returns-2 Inv-loop μ-loop

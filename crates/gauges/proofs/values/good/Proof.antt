@@ -1,4 +1,4 @@
--- `values::good` meets its contract. `1.0 / 0.0` computes to the infinity.
+-- `values::good` meets its contract: the two comparisons tell a finite number above zero. `1.0 / 0.0` computes to the infinity.
 use lib.Ieee.{ofBits, div}
 use Rattle.gauges.proofs.Comparisons.{above-zero, not-above-zero, not-below-top}
 use Rattle.gauges.proofs.values.good.Statement.{statement}

@@ -1,4 +1,4 @@
--- `values::is_out` meets its contract. `1.0 / 0.0` computes to the infinity.
+-- `values::is_out` meets its contract: the three comparisons tell a zero, and what is not finite. `1.0 / 0.0` computes to the infinity.
 use lib.Ieee.{ofBits, div, neg}
 use Rattle.gauges.proofs.Comparisons.{zero-is-out, top-is-out, bottom-is-out, not-out}
 use Rattle.gauges.proofs.values.is_out.Statement.{statement}

@@ -57,8 +57,9 @@ loop-less c = search needs
 
 loop-again : tie.Need-loop-again Inv-loop μ-loop
 loop-again c =
-    let s = c .before .before .before .before .args in
-    let l = c .before .before .before .loop in
+    let h = c .before .before .before in
+    let s = h .before .args in
+    let l = h .loop in
     let es = entries (now (s .es)) (s .at) (s .stride) in
     let exponent = held (es (l .j)) (c .before .power-arg .given) in
     (search needs, search needs, rw add-one (value-by (l .j) es (read (s .t1)) (l .inv .2) exponent (c .power .ensures)))
