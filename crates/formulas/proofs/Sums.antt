@@ -1,7 +1,7 @@
 -- Sums of products that a loop adds up in 64 bits: one more product, the sizes of a sum begun, and a sum that is divided, or stored in 32 bits.
 use mathlib.Core.Path.{_≡_, refl, _∙_}
 use mathlib.Core.List.{List}
-use Prim.Native.Nat.{ℕ, suc, _+_, _*_, _<_, _≤_}
+use Prim.Native.Nat.{ℕ, suc, _+_, _-_, _*_, _<_, _≤_}
 use native.Mathlib.Numerals.{add-one}
 use native.Mathlib.Omega.{arith}
 use lib.IntN.{ℤ, natAbs, _+ℤ_, _*ℤ_}
@@ -15,7 +15,7 @@ use Rattle.whole.proofs.Order as order
 use Rattle.whole.proofs.Sum.{products-size}
 use Rattle.rules.specs.Limits.{M}
 use Rattle.formulas.specs.declared.terms.Exponents.{Exponents}
-use Rattle.formulas.specs.Terms.{Products, mostRowTimes, RowOfW}
+use Rattle.formulas.specs.Terms.{Products, mostRowTimes, RowOfW, RowsOfW}
 use Rattle.checks.proofs.Values.{abs32, fits32, widened, quot-fits, bits-pos}
 
 -- s is the sum of the first j, r is the next, and the sum with it fits
@@ -50,6 +50,10 @@ module _ (z : ℤ) (small : natAbs z ≤ M) where
 pub divides64 : {y x : ℤ} (p : ℤ) → y ≡ x → natAbs x ≤ mostRowTimes → SFits w32 p → 0 < natAbs p
     → (0 < ofZ w64 (toZ w32 (ofZ w32 p))) × SFits w64 (quotZ y (toZ w64 (ofZ w64 (toZ w32 (ofZ w32 p)))))
 divides64 {x = x} p e h f l = (rw (toZ-ofZ f) (bits-pos p (abs32 p f) l), rw (e, widened p f) (quot-fits x p (omega arith)))
+
+-- a row of those from r on
+pub row-from : {w : List ℤ} {n r : ℕ} {e : Exponents} → RowsOfW w n r e → (g : ℕ) → g < n - r → RowOfW w n (r + g) e
+row-from p g h = record { few = p .few; row-in = omega (arith, p .r-in); length = p .length; w-small = p .w-small; e-small = p .e-small }
 
 -- ---- sizes
 pub dot-small : {a b : List ℤ} {at from count : ℕ} → Products a at b from count → (k : ℕ) → k ≤ count

@@ -45,6 +45,7 @@ abbrev pub lentTranslation : (m n : ℕ) (matrix moduli coefficients exponents k
 lentTranslation m n matrix moduli cs es ks ts = translateOf (given m n matrix moduli) (lentFormula cs es) ks ts
 
 -- ---- what is known before a translation
+-- the outputs are long enough
 pub record RoomToTranslate (kept₀ translated₀ : List ℤ) : Type 0 where
   pub kept : roomCoefficients ≤ length kept₀
   pub translated : roomExponents ≤ length translated₀
@@ -75,9 +76,11 @@ pub record Prepared (P : Problem) (q : ModulusRows) (w : List ℤ) (r : ℕ) : T
 abbrev pub judged : Problem → (v : ℕ → ℤ) → ℕ
 judged P v = cond (termRefused P (run P) v) (termNumber P v) 0
 
+-- of all terms: the first that is refused decides
 abbrev pub termsVerdict : Problem → Formula → Verdict
 termsVerdict P f = verdict (termsCheck P (run P) f ∷ [])
 
+-- an answer says that verdict
 pub record Tells8And9 (P : Problem) (f : Formula) (r : Refusal) : Type 0 where
   pub says : Says (r .number) (r .place) (termsVerdict P f)
 

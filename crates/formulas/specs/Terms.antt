@@ -73,6 +73,7 @@ pub record KThenV (P : Problem) (v : ℕ → ℤ) (e : Exponents) : Type 0 where
 abbrev pub rowOfW : (w : List ℤ) (n row : ℕ) (e : List ℤ) → ℤ
 rowOfW w n row e = sum n (λ c. nth w (row * n + c) *ℤ nth e c)
 
+-- W and the array are such that the product fits
 pub record RowOfW (w : List ℤ) (n row : ℕ) (e : Exponents) : Type 0 where
   pub few : n ≤ 24
   pub row-in : row < n
@@ -80,7 +81,7 @@ pub record RowOfW (w : List ℤ) (n row : ℕ) (e : Exponents) : Type 0 where
   pub w-small : Small w
   pub e-small : (c : ℕ) → natAbs (nth (e .x) c) ≤ mostRowTimes
 
--- the rows from r on
+-- the same of the rows from r on
 pub record RowsOfW (w : List ℤ) (n r : ℕ) (e : Exponents) : Type 0 where
   pub few : n ≤ 24
   pub r-in : r ≤ n

@@ -12,7 +12,7 @@ use borrow.Author.Needs.{needs}
 use Rattle.rules.specs.Limits.{M, beyond}
 use Rattle.formulas.specs.Terms.{rowOfW, written}
 use Rattle.checks.proofs.Values.{within}
-use Rattle.formulas.proofs.Sums.{narrows, narrowed}
+use Rattle.formulas.proofs.Sums.{narrows, narrowed, row-from}
 use Rattle.scaling.proofs.Filling.{written-none, written-turn, length-written}
 use Rattle.formulas.proofs.translate_term.Statement.{statement}
 use Rattle.formulas.proofs.translate_term.Tie as tie
@@ -70,8 +70,8 @@ add-translated c = let s = c .before .before .before in omega (arith, s .pre .0 
 
 translated-requires : tie.Need-translated-requires Inv-loop μ-loop
 translated-requires c κs =
-    let p = c .before .before .before .pre .0 in
-    record { few = p .few; row-in = omega (arith, p .r-in); length = p .length; w-small = p .w-small; e-small = p .e-small }
+    let l = c .before .before in
+    row-from (l .before .pre .0) (l .loop .g) (c .before .loop-test .taken)
 
 cast-out : tie.Need-cast-out Inv-loop μ-loop
 cast-out c = narrows (c .translated .result) (small c)

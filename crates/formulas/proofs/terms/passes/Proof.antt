@@ -16,6 +16,7 @@ use Rattle.rules.specs.Search.{none, first}
 use Rattle.rules.specs.Formulas.{isNone}
 use Rattle.theory.proofs.Loops.{first-start, first-more, first-hit}
 use Rattle.formulas.specs.Terms.{rowOfW}
+use Rattle.formulas.proofs.Sums.{row-from}
 use Rattle.formulas.proofs.terms.passes.Statement.{statement}
 use Rattle.formulas.proofs.terms.passes.Tie as tie
 
@@ -58,9 +59,7 @@ add-translated : tie.Need-add-translated Inv-loop μ-loop
 add-translated c = search needs
 
 translated-requires : tie.Need-translated-requires Inv-loop μ-loop
-translated-requires c κs =
-    let p = c .before .before .pre in
-    record { few = p .few; row-in = omega (arith, p .r-in); length = p .length; w-small = p .w-small; e-small = p .e-small }
+translated-requires c κs = row-from (c .before .before .pre) (c .before .loop .g) (c .loop-test .taken)
 
 beyond-requires : tie.Need-beyond-requires Inv-loop μ-loop
 beyond-requires c κs = search needs
