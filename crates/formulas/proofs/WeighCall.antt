@@ -10,17 +10,16 @@ use lib.Dec.{leb, eqb}
 use lib.ListN.{length}
 use lib.IntN.{ℤ}
 use borrow.Author.Tests.{leb-true, eqb-true}
-use Rattle.whole.specs.Lists.{nth}
 use Rattle.rules.specs.Limits.{mostTerms, roomWeights}
 use Rattle.rules.specs.Problem.{Problem}
-use Rattle.rules.specs.Calls.{Verdict, verdict, problemFits, weights, filled, weighed, weighOf, weighVerdict}
+use Rattle.rules.specs.Calls.{Verdict, verdict, problemFits, weighed, weighOf, weighVerdict}
 use Rattle.theory.proofs.Accepted.{exponents-small}
 use Rattle.checks.specs.declared.Refusal.{Refusal}
 use Rattle.checks.specs.Checks.{given, termsFit, TellsTo6}
 use Rattle.checks.specs.Moduli.{lentProblem}
 use Rattle.checks.proofs.Verdicts.{says-taken, says-refused, to6, formula-passed, exponents-passed}
 use Rattle.formulas.specs.Terms.{TermOf}
-use Rattle.formulas.specs.FormulaPromises.{Weighs}
+use Rattle.formulas.specs.FormulaPromises.{Weighs, weightsInto}
 
 -- a monomial is one term
 one-term : (n exponents : ℕ) → termsFit n 1 exponents ≡ eqb exponents n
@@ -51,10 +50,10 @@ module _ {m n : ℕ} {matrix moduli es : List ℤ} {c : Refusal} (out : List ℤ
       };
     }
 
-    pub weigh-passed : {out₁ : List ℤ} → out₁ ≡ filled (weights (lentProblem n matrix moduli) (nth es)) out
+    pub weigh-passed : {out₁ : List ℤ} → out₁ ≡ weightsInto (lentProblem n matrix moduli) es out
         → Weighs (weighOf P es out) (record { number = 0; place = 0 }) out₁
     weigh-passed w = rw (weigh-is (says-taken (t .says) e)) (record {
       number = refl;
       place = refl;
-      weights = w ∙ ap (λ P. filled (weights P (nth es)) out) (sym (formula-passed t e .same));
+      weights = w ∙ ap (λ P. weightsInto P es out) (sym (formula-passed t e .same));
     })

@@ -11,7 +11,7 @@ use Rattle.rules.specs.Limits.{roomW, roomCoefficients, roomExponents}
 use Rattle.rules.specs.Problem.{Problem, N, WellFormed}
 use Rattle.rules.specs.Stages.{run, W}
 use Rattle.rules.specs.Formulas.{Formula, terms, term, WellFormedFormula}
-use Rattle.rules.specs.Calls.{Verdict, verdict, termRefused, termNumber, termsCheck, filled, translatedExponents}
+use Rattle.rules.specs.Calls.{Verdict, verdict, termRefused, termNumber, termsCheck, filled, weights, translatedExponents}
 use Rattle.rules.specs.Calls.{Weighed, Translated, translatedTo, translateOf}
 use Rattle.checks.specs.declared.ModulusRows.{ModulusRows}
 use Rattle.checks.specs.declared.Refusal.{Refusal}
@@ -26,6 +26,10 @@ pub record Weighs (b : Weighed) (r : WeighAnswer) (out₁ : List ℤ) : Type 0 w
   pub number : r .number ≡ b .answer .number
   pub place : r .place ≡ b .answer .place
   pub weights : out₁ ≡ b .weights
+
+-- a lent output with the weights written into it
+abbrev pub weightsInto : Problem → (exponents out : List ℤ) → List ℤ
+weightsInto P es out = filled (weights P (nth es)) out
 
 -- ---- translate
 -- of numbers, or of bytes where the call lends bytes

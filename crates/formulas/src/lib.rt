@@ -2,16 +2,14 @@
 ghost use mathlib.Core.Path.{_≡_};
 ghost use Prim.Native.Nat.{_≤_, _+_, _-_};
 ghost use lib.ListN.{length};
-ghost use Rattle.whole.specs.Lists.{nth};
 ghost use Rattle.rules.specs.Limits.{roomWeights};
 ghost use Rattle.rules.specs.Problem.{WellFormed};
 ghost use Rattle.rules.specs.Formulas.{WellFormedFormula};
 ghost use Rattle.rules.specs.Calls.{filled, weighOf};
-ghost use Rattle.rules.specs.Calls as calls;
 ghost use Rattle.checks.specs.Checks.{given};
 ghost use Rattle.checks.specs.Moduli.{lentProblem};
 ghost use Rattle.formulas.specs.Terms.{from, Monomial, TermOf, rowOfW, RowsOfW, NoneBeyond, written};
-ghost use Rattle.formulas.specs.FormulaPromises.{Weighs, Translates, lentFormula, lentTranslation, Translatable, Solved, Prepared};
+ghost use Rattle.formulas.specs.FormulaPromises.{Weighs, weightsInto, Translates, lentFormula, lentTranslation, Translatable, Solved, Prepared};
 ghost use Rattle.formulas.specs.FormulaPromises.{judged, Tells8And9, AllTaken, exponentsInto, checkedTranslation};
 
 mod terms;
@@ -47,7 +45,7 @@ pub struct TranslateAnswer {
 fn weigh_checked(n: usize, matrix: &[i32], moduli: &[i32], exponents: &[i32], weights: &mut [i32])
     requires { ⌜ TermOf (lentProblem n (now matrix) (now moduli)) (now exponents) 0 ⌝ }
     requires { ⌜ roomWeights ≤ length (now weights) ⌝ }
-    ensures { λ r. ⌜ now (weights .exit) ≡ filled (calls.weights (lentProblem n (now (matrix .entry)) (now (moduli .entry))) (nth (now (exponents .entry)))) (now (weights .entry)) ⌝ }
+    ensures { λ r. ⌜ now (weights .exit) ≡ weightsInto (lentProblem n (now (matrix .entry)) (now (moduli .entry))) (now (exponents .entry)) (now (weights .entry)) ⌝ }
 {
     let mut i = 0;
     while i < moduli.len() {
@@ -188,7 +186,8 @@ fn translate_all(
     requires { ⌜ Translatable (lentProblem n (now matrix) (now moduli)) (lentFormula (now coefficients) (now exponents)) (now kept) (now out) ⌝ }
     requires { ⌜ AllTaken (lentProblem n (now matrix) (now moduli)) (lentFormula (now coefficients) (now exponents)) ⌝ }
     ensures { λ x. ⌜ now (kept .exit) ≡ filled (now (coefficients .entry)) (now (kept .entry)) ⌝ }
-    ensures { λ x. ⌜ now (out .exit) ≡ exponentsInto (lentProblem n (now (matrix .entry)) (now (moduli .entry))) (lentFormula (now (coefficients .entry)) (now (exponents .entry))) (now (out .entry)) ⌝ }
+    ensures { λ x. ⌜ now (out .exit) ≡ exponentsInto (lentProblem n (now (matrix .entry)) (now (moduli .entry))) (lentFormula (now (coefficients .entry)) (now (exponents .entry)))
+        (now (out .entry)) ⌝ }
 {
     let cols = n + q.s;
     let d = cols - r;

@@ -87,7 +87,7 @@ module _ (c : tie.In-loop Inv-loop μ-loop) where
   place-fits : Fits w64 (t * d entry)
   place-fits = omega (arith, room-for-terms (entry .pre .0) t (omega (arith, few)))
 
--- its point before the exponents are written
+-- back to its beginning, from where k followed by v is made
 abbrev turn : tie.After-k-then-v Inv-loop μ-loop → tie.In-loop Inv-loop μ-loop
 turn c = c .before .before
 
