@@ -41,11 +41,11 @@ module _ (c : tie.After-w2) where
   abbrev built : tie.After-build
   built = c .before .before .before
 
-  abbrev lent : tie.After-w
-  lent = built .before
+  abbrev zeroed : tie.After-w
+  zeroed = built .before
 
   abbrev checked : tie.Else1
-  checked = lent .before .before .before
+  checked = zeroed .before .before .before
 
   abbrev h-after : List ℤ
   h-after = built .build .last .1 .1 .1 .1 .0
@@ -66,11 +66,11 @@ module _ (c : tie.After-w2) where
 
 -- ---- before the rest is left to `translate_checked`
 module _ (c : tie.After-translate-checked-arg2) where
-  abbrev known : tie.After-struct-known
-  known = c .before .before
+  abbrev ranked : tie.After-struct-known
+  ranked = c .before .before
 
   abbrev taken : tie.Else2
-  taken = known .before .before
+  taken = ranked .before .before
 
 both-requires : tie.Need-both-requires
 both-requires c κs = search needs
