@@ -1,4 +1,4 @@
--- `formulas::dot` meets its contract. The loop's invariant: the sum is that of the first j products.
+-- `terms::dot` meets its contract. The loop's invariant: the sum is that of the first j products, and every such sum fits 64 bits.
 use mathlib.Core.Path.{_≡_, _∙_, ap₂}
 use Prim.Native.Nat.{ℕ, suc, _+_, _-_, _<_, _≤_}
 use native.Mathlib.Omega.{arith}

@@ -1,4 +1,4 @@
--- `formulas::fill_k` meets its contract. The loop's invariant: the first c entries are those of k.
+-- `terms::fill_k` meets its contract. The loop's invariant: the first c entries are those of k.
 use mathlib.Core.Path.{_≡_, _∙_, ap}
 use Prim.Native.Nat.{ℕ, _-_, _<_, _≤_}
 use native.Mathlib.Omega.{arith}

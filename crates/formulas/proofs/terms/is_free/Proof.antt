@@ -1,4 +1,4 @@
--- `formulas::is_free` meets its contract. The loop's invariant: no row before i has a weight that is not 0.
+-- `terms::is_free` meets its contract. The loop's invariant: no row before i has a weight that is not 0.
 use mathlib.Core.Path.{_≡_, refl, sym, _∙_, ap}
 use mathlib.Core.Bool.{Bool, not}
 use Prim.Native.Nat.{ℕ, _-_, _≤_}

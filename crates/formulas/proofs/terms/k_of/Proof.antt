@@ -1,4 +1,4 @@
--- `formulas::k_of` meets its contract: the modulus is not 0, and the quotient is no larger than the row times v.
+-- `terms::k_of` meets its contract: the modulus is not 0, and the quotient is no larger than the row times v.
 use mathlib.Core.Path.{_≡_}
 use Prim.Native.Nat.{ℕ}
 use native.Mathlib.Omega.{arith}

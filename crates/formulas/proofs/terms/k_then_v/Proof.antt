@@ -1,4 +1,4 @@
--- `formulas::k_then_v` meets its contract. The loop's invariant: the first s + j entries are those of k followed by v.
+-- `terms::k_then_v` meets its contract. The loop's invariant: the first s + j entries are those of k followed by v.
 use mathlib.Core.Path.{_≡_, sym, _∙_, ap}
 use Prim.Native.Nat.{ℕ, _+_, _-_, _≤_, _<_}
 use native.Mathlib.Omega.{arith}

@@ -1,4 +1,4 @@
--- `formulas::passes` meets its contract. The loop's invariant: none of the first g translated exponents is beyond M.
+-- `terms::passes` meets its contract. The loop's invariant: none of the first g translated exponents is beyond M.
 use mathlib.Core.Path.{_≡_, sym, _∙_, ap}
 use mathlib.Core.Bool.{Bool, true, not}
 use mathlib.Core.List.{List}

@@ -1,4 +1,4 @@
--- `formulas::product` meets its contract: the product of two numbers of 32 bits fits 64.
+-- `terms::product` meets its contract: the product of two numbers of 32 bits fits 64.
 use lib.IntN.{_*ℤ_}
 use mir.Syntax.{w64}
 use mir.Val.{SFits}

@@ -1,4 +1,4 @@
--- `formulas::product64` meets its contract: the product fits 64 bits.
+-- `terms::product64` meets its contract: b is so small that the product fits 64 bits.
 use native.Mathlib.Omega.{arith}
 use lib.IntN.{_*ℤ_}
 use mir.Syntax.{w64}

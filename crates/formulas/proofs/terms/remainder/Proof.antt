@@ -1,4 +1,4 @@
--- `formulas::remainder` meets its contract: the modulus is not 0, and neither quotient nor remainder is larger than x.
+-- `terms::remainder` meets its contract: the modulus is not 0, and neither quotient nor remainder is larger than x.
 use native.Mathlib.Omega.{arith}
 use lib.Signed.{remZ}
 use mir.Syntax.{w64}

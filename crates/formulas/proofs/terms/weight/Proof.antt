@@ -1,4 +1,4 @@
--- `formulas::weight` meets its contract: the row times v, or its remainder by the modulus.
+-- `terms::weight` meets its contract: `dot` gives the row times v, and where there is a modulus `remainder` gives its remainder.
 use mathlib.Core.Path.{_≡_, sym, _∙_, ap, ap₂}
 use mathlib.Core.Logic.{_≢_}
 use Prim.Native.Nat.{ℕ}

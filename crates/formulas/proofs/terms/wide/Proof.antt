@@ -1,4 +1,4 @@
--- `formulas::wide` meets its contract: what fits 32 bits fits 64.
+-- `terms::wide` meets its contract: what fits 32 bits fits 64.
 use Rattle.checks.proofs.Values.{cast-fits, widened}
 use Rattle.formulas.proofs.terms.wide.Statement.{statement}
 use Rattle.formulas.proofs.terms.wide.Tie as tie
