@@ -6,7 +6,7 @@ use native.Mathlib.Omega.{arith}
 use borrow.Author.Tests.{le-ltb, ltb-true}
 use lib.IntN.{ℤ, pos, negsuc, _-ℤ_}
 use lib.Signed.{ltZ}
-use mir.Syntax.{Width, w32}
+use mir.Syntax.{Width, w16, w32}
 use mir.Val.{SFits, toZ, ofZ, bits, hbits}
 use mir.Facts.{toZ-pos, toZ-ofZ}
 use Rattle.whole.proofs.Order.{zarith, -is}
@@ -27,6 +27,10 @@ module _ (w : Width) (x k : ℕ) (h : 2 ^ hbits w ≤ x) (e : k ≡ 2 ^ bits w -
 
   pub upper-half : toZ w32 (ofZ w32 (negsuc 0 -ℤ toZ w32 k)) ≡ toZ w x
   upper-half = toZ-ofZ upper-half-fits ∙ to-negative ∙ rw (le-ltb x (2 ^ hbits w) h, ← e)
+
+-- in the lower half of 16 bits: x itself
+pub lower-half : (x : ℕ) → x < 32768 → toZ w32 x ≡ toZ w16 x
+lower-half x h = toZ-pos w32 (omega arith) ∙ sym (toZ-pos w16 h)
 
 -- ---- to the bits of z
 pub record Negative (z : ℤ) : Type 0 where
