@@ -13,7 +13,6 @@ use parts::at_most_8;
 use parts::first_out;
 use parts::formula_fits;
 use parts::problem_fits;
-use parts::sizes_in_range;
 
 // The limits of R2.1 to R2.6, and the least lengths of outputs (R2.9).
 pub const M: i64 = 2147483647;
@@ -74,6 +73,13 @@ pub fn beyond(z: i64) -> bool
     ensures { λ r. ⌜ r ≡ limits.beyond z ⌝ }
 {
     if z < MINUS_M { true } else { M < z }
+}
+
+// Check 1.
+pub fn sizes_in_range(m: u32, n: u32) -> bool
+    ensures { λ r. ⌜ r ≡ limits.sizesInRange m n ⌝ }
+{
+    both(both(1 <= m, m <= 8), both(1 <= n, n <= 16))
 }
 
 // 1 to 5; `more` says that the inputs other than matrix and moduli have the right lengths, `outputs` that no output is too short.

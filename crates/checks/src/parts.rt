@@ -4,7 +4,7 @@ ghost use mathlib.Core.Bool.{_&&_};
 ghost use Prim.Native.Nat.{_*_, min};
 ghost use lib.Dec.{eqb, leb};
 ghost use Rattle.rules.specs.Limits as limits;
-ghost use Rattle.rules.specs.Limits.{mostTerms, sizesInRange};
+ghost use Rattle.rules.specs.Limits.{mostTerms};
 ghost use Rattle.checks.specs.Checks.{FirstOut};
 use crate::MOST_TERMS;
 use crate::both;
@@ -27,12 +27,6 @@ pub fn first_out(xs: &[i32], lo: i32, hi: i32) -> usize
         i += 1;
     }
     i
-}
-
-pub fn sizes_in_range(m: u32, n: u32) -> bool
-    ensures { λ r. ⌜ r ≡ sizesInRange m n ⌝ }
-{
-    both(both(1 <= m, m <= 8), both(1 <= n, n <= 16))
 }
 
 // The matrix has m times n entries, and there are m moduli.

@@ -1,75 +1,62 @@
--- words::decode meets its contract. The loop's invariant: the first i places hold the first i numbers of the bytes. Assumes nothing.
-use mathlib.Core.Path.{_≡_, refl, _∙_}
-use Prim.Native.Nat.{_≤_, _-_, _/_}
-use native.Mathlib.Omega.{arith}
-use borrow.Author.Needs.{needs}
-use lib.ListN.{length, take, length-set}
-use Rattle.rules.specs.Bytes.{longs}
-use Rattle.checks.proofs.Values.{held}
-use Rattle.bench.proofs.Rooms.{readable-torn, readable-long, decoded-wrong, decoded-all, decoded-suc}
 use Rattle.bench.proofs.words.decode.Statement.{statement}
 use Rattle.bench.proofs.words.decode.Tie as tie
+use Rattle.bench.proofs.words.decode.Reads as reads
+use Rattle.bench.proofs.words.decode.Lts as lts
+use Rattle.bench.proofs.words.get.Reads as get-reads
 
 abbrev Inv-loop : tie.InvT-loop
-Inv-loop s out₀ count i₀ out i = (i ≤ count) × (length out ≡ length out₀) × (take i out ≡ longs i s)
+Inv-loop s out₀ count i₀ out i = ?
 
 abbrev μ-loop : tie.MeasureT-loop
-μ-loop s out₀ count i₀ out i = count - i
+μ-loop s out₀ count i₀ out i = ?
 
+-- src/words.rt:27:9
 returns : tie.Need-returns Inv-loop μ-loop
-returns c =
-    let a = c .before .before .args in
-    decoded-wrong (a .s .now) (a .out .now) (readable-torn (a .s .now) _ (λ e. omega arith))
+returns c = ?
 
+-- src/words.rt:30:9
 returns-2 : tie.Need-returns-2 Inv-loop μ-loop
-returns-2 c =
-    let a = c .before .before .before .args in
-    decoded-wrong (a .s .now) (a .out .now) (readable-long (a .s .now) _ (omega arith))
+returns-2 c = ?
 
+-- src/words.rt:33:5
 loop-holds : tie.Need-loop-holds Inv-loop μ-loop
-unfolding longs
-loop-holds c = (omega arith, refl, refl)
+loop-holds c = ?
 
-mul-unsigned : tie.Need-mul-unsigned Inv-loop μ-loop
-mul-unsigned c = omega arith
+-- src/words.rt:34:25
+mul-get : tie.Need-mul-get Inv-loop μ-loop
+mul-get c = ?
 
-unsigned-requires : tie.Need-unsigned-requires Inv-loop μ-loop
-unsigned-requires c κs = omega arith
+-- src/words.rt:34:18
+get-requires : tie.Need-get-requires Inv-loop μ-loop
+get-requires c κs = ?
 
-signed-requires : tie.Need-signed-requires Inv-loop μ-loop
-signed-requires c κs = search needs
+-- src/words.rt:34:9
+mul-t11 : tie.Need-mul-t11 Inv-loop μ-loop
+mul-t11 c = ?
 
-mul-z : tie.Need-mul-z Inv-loop μ-loop
-mul-z c = omega arith
+-- src/words.rt:34:9
+slice-set-from-out : tie.Need-slice-set-from-out Inv-loop μ-loop
+slice-set-from-out c = ?
 
-slice-set-from-z : tie.Need-slice-set-from-z Inv-loop μ-loop
-slice-set-from-z c = omega arith
-
+-- src/words.rt:35:9
 add-i : tie.Need-add-i Inv-loop μ-loop
-add-i c = omega arith
+add-i c = ?
 
+-- src/words.rt:33:5
 loop-less : tie.Need-loop-less Inv-loop μ-loop
-loop-less c = omega arith
+loop-less c = ?
 
+-- src/words.rt:33:5
 loop-again : tie.Need-loop-again Inv-loop μ-loop
-loop-again c =
-    let l = c .before .before .before .loop in
-    let s = c .before .before .before .before .before .before .before .args .s .now in (
-      omega arith,
-      simp length-set (l .inv .1),
-      decoded-suc s (l .out) (l .i) _ _ (omega arith) (l .inv .2) (c .before .unsigned .ensures)
-          (held (c .signed .result) (c .signed .ok) ∙ c .signed .ensures),
-    )
+loop-again c = ?
 
+-- src/words.rt:22:1
 same-length : tie.Need-same-length Inv-loop μ-loop
-same-length c = search needs
+same-length c = ?
 
+-- src/words.rt:22:1
 returns-3 : tie.Need-returns-3 Inv-loop μ-loop
-returns-3 c =
-    let a = c .before .before .before .before .before .args in
-    let l = c .before .loop in
-    let i : l .i ≡ length (a .s .now) / 4 = omega arith in
-    decoded-all (a .s .now) (a .out .now) (l .out) (omega arith) (omega arith) (l .inv .1) (rw i at (l .inv .2))
+returns-3 c = ?
 
 pub decode-spec : {M : Type 1} → statement M
 decode-spec =
@@ -80,11 +67,10 @@ decode-spec =
     returns
     returns-2
     loop-holds
-    mul-unsigned
-    unsigned-requires
-    signed-requires
-    mul-z
-    slice-set-from-z
+    mul-get
+    get-requires
+    mul-t11
+    slice-set-from-out
     add-i
     loop-less
     loop-again

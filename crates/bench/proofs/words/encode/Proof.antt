@@ -1,71 +1,54 @@
--- words::encode meets its contract. The loop's invariant: the first i numbers stand at the front, the bytes behind are those of the entry.
--- Assumes nothing.
-use mathlib.Core.Path.{_≡_, refl, ap, _∙_}
-use Prim.Native.Nat.{_≤_, _-_}
-use native.Mathlib.Omega.{arith}
-use borrow.Author.Needs.{needs}
-use lib.ListN.{length, take, getD}
-use lib.IntN.{ℤ, pos}
-use mir.Syntax.{w32}
-use mir.Val.{ofZ}
-use Rattle.rules.specs.Bytes.{bytesOf}
-use Rattle.rules.specs.Calls.{filled}
-use Rattle.checks.proofs.Values.{held}
-use Rattle.bench.proofs.Bytes.{filled-suc}
 use Rattle.bench.proofs.words.encode.Statement.{statement}
 use Rattle.bench.proofs.words.encode.Tie as tie
+use Rattle.bench.proofs.words.encode.Reads as reads
+use Rattle.bench.proofs.words.encode.Lts as lts
+use Rattle.bench.proofs.words.put.Reads as put-reads
 
 abbrev Inv-loop : tie.InvT-loop
-Inv-loop out₀ xs count i₀ out i = (i ≤ count) × (length out ≡ length out₀) × (out ≡ filled (bytesOf (take i xs)) out₀)
+Inv-loop out₀ xs count i₀ out i = ?
 
 abbrev μ-loop : tie.MeasureT-loop
-μ-loop out₀ xs count i₀ out i = count - i
+μ-loop out₀ xs count i₀ out i = ?
 
+-- src/words.rt:67:5
 loop-holds : tie.Need-loop-holds Inv-loop μ-loop
-unfolding bytesOf
-loop-holds c = (omega arith, refl, refl)
+loop-holds c = ?
 
+-- src/words.rt:68:18
 mul-put : tie.Need-mul-put Inv-loop μ-loop
-mul-put c = omega arith
+mul-put c = ?
 
-mul-bits : tie.Need-mul-bits Inv-loop μ-loop
-mul-bits c = omega arith
+-- src/words.rt:68:25
+mul-put-2 : tie.Need-mul-put-2 Inv-loop μ-loop
+mul-put-2 c = ?
 
-shared-slice-copy-out-bits : tie.Need-shared-slice-copy-out-bits Inv-loop μ-loop
-shared-slice-copy-out-bits c = omega arith
+-- src/words.rt:68:25
+shared-slice-copy-out-put : tie.Need-shared-slice-copy-out-put Inv-loop μ-loop
+shared-slice-copy-out-put c = ?
 
-bits-requires : tie.Need-bits-requires Inv-loop μ-loop
-bits-requires c κs = search needs
-
+-- src/words.rt:68:9
 put-requires : tie.Need-put-requires Inv-loop μ-loop
-put-requires c κs = omega arith
+put-requires c κs = ?
 
+-- src/words.rt:69:9
 add-i : tie.Need-add-i Inv-loop μ-loop
-add-i c = omega arith
+add-i c = ?
 
+-- src/words.rt:67:5
 loop-less : tie.Need-loop-less Inv-loop μ-loop
-loop-less c = omega arith
+loop-less c = ?
 
+-- src/words.rt:67:5
 loop-again : tie.Need-loop-again Inv-loop μ-loop
-loop-again c =
-    let a = c .before .before .before .before .before .before .before .before .before .args in
-    let l = c .before .before .before .before .before .before .before .loop in
-    let z : ℤ = getD (a .xs .now) (l .i) (pos 0) in
-    let e : c .before .before .before .bits .result ≡ ofZ w32 z
-    = c .before .before .before .bits .ensures ∙ ap (ofZ w32) (held z (c .before .before .before .before .bits-arg .given)) in (
-      omega arith,
-      c .before .before .put .kept .0 ∙ l .inv .1,
-      filled-suc (a .xs .now) (a .out .now) (l .out) (c .before .before .put .last .0) (l .i) (omega arith) (l .inv .2)
-          (rw e at (c .before .before .put .ensures)),
-    )
+loop-again c = ?
 
+-- src/words.rt:62:1
 same-length : tie.Need-same-length Inv-loop μ-loop
-same-length c = search needs
+same-length c = ?
 
+-- src/words.rt:62:1
 returns : tie.Need-returns Inv-loop μ-loop
-returns c =
-    let i : c .before .loop .i ≡ c .before .before .before .args .count = omega arith in
-    rw i at (c .before .loop .inv .2)
+returns c = ?
 
 pub encode-spec : {M : Type 1} → statement M
 encode-spec =
@@ -75,9 +58,8 @@ encode-spec =
     μ-loop
     loop-holds
     mul-put
-    mul-bits
-    shared-slice-copy-out-bits
-    bits-requires
+    mul-put-2
+    shared-slice-copy-out-put
     put-requires
     add-i
     loop-less

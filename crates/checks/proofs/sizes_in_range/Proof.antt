@@ -1,7 +1,7 @@
--- `parts::sizes_in_range` meets its contract: each `both` is the definitions' conjunction.
+-- `sizes_in_range` meets its contract: each `both` is the definitions' conjunction.
 use borrow.Author.Needs.{needs}
-use Rattle.checks.proofs.parts.sizes_in_range.Statement.{statement}
-use Rattle.checks.proofs.parts.sizes_in_range.Tie as tie
+use Rattle.checks.proofs.sizes_in_range.Statement.{statement}
+use Rattle.checks.proofs.sizes_in_range.Tie as tie
 
 both-requires : tie.Need-both-requires
 both-requires c κs = search needs
