@@ -8,20 +8,16 @@ use native.Mathlib.Omega.{arith}
 use lib.ListN.{length, getD, take, drop, set, length-append}
 use lib.Seq.{sets-eq, take-at, drop-append-add, drop-drop, take-suc, getD-drop, length-take-le}
 use lib.IntN.{ℤ, pos}
-use mir.Syntax.{w32}
-use mir.Val.{ofZ}
-use Rattle.rules.specs.Bytes.{byteAt, long, longs, fourBytes, bytesOf}
+use Rattle.rules.specs.Bytes.{long, longs, bytesOf}
 use Rattle.rules.specs.Calls.{filled}
 use Rattle.theory.proofs.Bytes.{length-bytes, bytes-append}
 use Rattle.bench.specs.Words.{Put}
 
 -- ---- reading
-pub four-at : (s : List ℕ) (at a b c d : ℕ)
-    → a ≡ getD s at 0 → b ≡ getD s (at + 1) 0 → c ≡ getD s (at + 2) 0 → d ≡ getD s (at + 3) 0
-    → 16777216 * a + 65536 * b + 256 * c + d
-    ≡ 16777216 * byteAt (drop at s) 0 + 65536 * byteAt (drop at s) 1 + 256 * byteAt (drop at s) 2 + byteAt (drop at s) 3
-four-at s at a b c d e f g h =
-    omega (arith, getD-drop at s 0 0 ∙ ap (λ (k : ℕ). getD s k 0) (add-zero at), getD-drop at s 1 0, getD-drop at s 2 0, getD-drop at s 3 0)
+pub four-at : (s : List ℕ) (at : ℕ)
+    → long (getD s at 0 ∷ getD s (at + 1) 0 ∷ getD s (at + 2) 0 ∷ getD s (at + 3) 0 ∷ []) ≡ long (drop at s)
+unfolding long
+four-at s at = simp (getD-drop, add-zero)
 
 pub length-longs : (count : ℕ) (s : List ℕ) → length (longs count s) ≡ count
 unfolding longs
@@ -37,7 +33,7 @@ longs-suc (suc count) s =
     ∙ ap (λ (t : List ℕ). longs count (drop 4 s) ++ (long t ∷ [])) (drop-drop (count * 4) 4 s ∙ ap (λ (k : ℕ). drop k s) e))
 
 -- ---- writing
-pub four-set : (out : List ℕ) (at a b c d : ℕ) → at + 3 < length out
+four-set : (out : List ℕ) (at a b c d : ℕ) → at + 3 < length out
     → set (set (set (set out at a) (at + 1) b) (at + 2) c) (at + 3) d ≡ take at out ++ (a ∷ b ∷ c ∷ d ∷ []) ++ drop (at + 4) out
 four-set out at a b c d h =
     let e : at + 1 ≡ suc at = omega arith in
@@ -45,15 +41,14 @@ four-set out at a b c d h =
     let g : at + 3 ≡ suc (suc (suc at)) = omega arith in
     rw (e, f, g) (sets-eq (a ∷ b ∷ c ∷ d ∷ []) out at (omega arith))
 
-bytes-one : (z : ℤ) → bytesOf (z ∷ []) ≡ fourBytes (ofZ w32 z)
+pub four-put : (out bytes : List ℕ) (at : ℕ) (z : ℤ) → at + 3 < length out → bytes ≡ bytesOf (z ∷ [])
+    → Put out (set (set (set (set out at (getD bytes 0 0)) (at + 1) (getD bytes 1 0)) (at + 2) (getD bytes 2 0)) (at + 3) (getD bytes 3 0)) at (bytesOf (z ∷ []))
 unfolding bytesOf
-bytes-one z = refl
+four-put out bytes at z h e = rw e (record { is = four-set out at _ _ _ _ h })
 
 bytes-suc : (xs : List ℤ) (i : ℕ) → i < length xs
-    → bytesOf (take (suc i) xs) ≡ bytesOf (take i xs) ++ fourBytes (ofZ w32 (getD xs i (pos 0)))
-bytes-suc xs i h =
-    ap bytesOf (take-suc xs i (pos 0) h) ∙ bytes-append (take i xs) (getD xs i (pos 0) ∷ [])
-    ∙ ap (λ (t : List ℕ). bytesOf (take i xs) ++ t) (bytes-one (getD xs i (pos 0)))
+    → bytesOf (take (suc i) xs) ≡ bytesOf (take i xs) ++ bytesOf (getD xs i (pos 0) ∷ [])
+bytes-suc xs i h = ap bytesOf (take-suc xs i (pos 0) h) ∙ bytes-append (take i xs) (getD xs i (pos 0) ∷ [])
 
 -- a text put right behind what is filled
 filled-more : (a b lent out : List ℕ) (at : ℕ) → length a ≡ at → Put (filled a lent) out at b → out ≡ filled (a ++ b) lent
@@ -65,7 +60,7 @@ filled-more a b lent out at e p =
     p .is ∙ ap₂ (λ (x y : List ℕ). x ++ b ++ y) (take-at a r at e) f
 
 pub filled-suc : (xs : List ℤ) (lent out out₁ : List ℕ) (i : ℕ) → i < length xs → out ≡ filled (bytesOf (take i xs)) lent
-    → Put out out₁ (i * 4) (fourBytes (ofZ w32 (getD xs i (pos 0)))) → out₁ ≡ filled (bytesOf (take (i + 1) xs)) lent
+    → Put out out₁ (i * 4) (bytesOf (getD xs i (pos 0) ∷ [])) → out₁ ≡ filled (bytesOf (take (i + 1) xs)) lent
 filled-suc xs lent out out₁ i h e p =
     let l : length (bytesOf (take i xs)) ≡ i * 4 = omega (arith, length-bytes (take i xs), length-take-le i xs (omega arith)) in
-    rw (add-one i, bytes-suc xs i h) (filled-more (bytesOf (take i xs)) (fourBytes (ofZ w32 (getD xs i (pos 0)))) lent out₁ (i * 4) l (rw e at p))
+    rw (add-one i, bytes-suc xs i h) (filled-more (bytesOf (take i xs)) (bytesOf (getD xs i (pos 0) ∷ [])) lent out₁ (i * 4) l (rw e at p))

@@ -10,10 +10,8 @@ use borrow.Author.Tests.{le-leb, lt-leb, lt-ltb, le-ltb, eq-eqb, ne-eqb}
 use lib.ListN.{length, take, drop, set}
 use lib.Seq.{take-suc-set}
 use lib.IntN.{ℤ}
-use mir.Syntax.{w32}
-use mir.Val.{toZ}
 use Rattle.whole.proofs.Tests.{true-not-false}
-use Rattle.rules.specs.Bytes.{long, longs, wholeNumbers, byteAt}
+use Rattle.rules.specs.Bytes.{long, longs, wholeNumbers}
 use Rattle.bench.specs.Words.{readable, Decoded, roomOf}
 use Rattle.bench.proofs.Bytes.{longs-suc}
 
@@ -55,9 +53,6 @@ decoded-all s out₀ out₁ e h l t = record {
 }
 
 -- one number more
-pub decoded-suc : (s : List ℕ) (out : List ℤ) (i x : ℕ) (z : ℤ) → i < length out → take i out ≡ longs i s
-    → x ≡ 16777216 * byteAt (drop (i * 4) s) 0 + 65536 * byteAt (drop (i * 4) s) 1 + 256 * byteAt (drop (i * 4) s) 2 + byteAt (drop (i * 4) s) 3
-    → z ≡ toZ w32 x → take (i + 1) (set out i z) ≡ longs (i + 1) s
-unfolding long
-decoded-suc s out i x z h t e f =
-    rw add-one (take-suc-set out i z h ∙ rw (t, f, e) (sym (longs-suc i s)))
+pub decoded-suc : (s : List ℕ) (out : List ℤ) (i : ℕ) (z : ℤ) → i < length out → take i out ≡ longs i s
+    → z ≡ long (drop (i * 4) s) → take (i + 1) (set out i z) ≡ longs (i + 1) s
+decoded-suc s out i z h t e = rw add-one (take-suc-set out i z h ∙ rw (t, e) (sym (longs-suc i s)))

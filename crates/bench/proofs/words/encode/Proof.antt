@@ -1,54 +1,67 @@
+-- words::encode meets its contract. The loop's invariant: the first i numbers stand at the front, the bytes behind are those of the entry.
+-- Assumes nothing.
+use mathlib.Core.Path.{_≡_, refl, _∙_}
+use Prim.Native.Nat.{_≤_, _-_}
+use native.Mathlib.Omega.{arith}
+use borrow.Author.Needs.{needs}
+use lib.ListN.{length, take, getD}
+use lib.IntN.{ℤ, pos}
+use Rattle.rules.specs.Bytes.{bytesOf}
+use Rattle.rules.specs.Calls.{filled}
+use Rattle.checks.proofs.Values.{held}
+use Rattle.bench.proofs.Bytes.{filled-suc}
 use Rattle.bench.proofs.words.encode.Statement.{statement}
 use Rattle.bench.proofs.words.encode.Tie as tie
-use Rattle.bench.proofs.words.encode.Reads as reads
-use Rattle.bench.proofs.words.encode.Lts as lts
-use Rattle.bench.proofs.words.put.Reads as put-reads
 
 abbrev Inv-loop : tie.InvT-loop
-Inv-loop out₀ xs count i₀ out i = ?
+Inv-loop out₀ xs count i₀ out i = (i ≤ count) × (length out ≡ length out₀) × (out ≡ filled (bytesOf (take i xs)) out₀)
 
 abbrev μ-loop : tie.MeasureT-loop
-μ-loop out₀ xs count i₀ out i = ?
+μ-loop out₀ xs count i₀ out i = count - i
 
--- src/words.rt:67:5
 loop-holds : tie.Need-loop-holds Inv-loop μ-loop
-loop-holds c = ?
+unfolding bytesOf
+loop-holds c = (omega arith, refl, refl)
 
--- src/words.rt:68:18
 mul-put : tie.Need-mul-put Inv-loop μ-loop
-mul-put c = ?
+mul-put c = omega arith
 
--- src/words.rt:68:25
 mul-put-2 : tie.Need-mul-put-2 Inv-loop μ-loop
-mul-put-2 c = ?
+mul-put-2 c = omega arith
 
--- src/words.rt:68:25
 shared-slice-copy-out-put : tie.Need-shared-slice-copy-out-put Inv-loop μ-loop
-shared-slice-copy-out-put c = ?
+shared-slice-copy-out-put c = omega arith
 
--- src/words.rt:68:9
 put-requires : tie.Need-put-requires Inv-loop μ-loop
-put-requires c κs = ?
+put-requires c κs = omega arith
 
--- src/words.rt:69:9
 add-i : tie.Need-add-i Inv-loop μ-loop
-add-i c = ?
+add-i c = omega arith
 
--- src/words.rt:67:5
 loop-less : tie.Need-loop-less Inv-loop μ-loop
-loop-less c = ?
+loop-less c = omega arith
 
--- src/words.rt:67:5
 loop-again : tie.Need-loop-again Inv-loop μ-loop
-loop-again c = ?
+loop-again c =
+    let stored = c .before .before in
+    let read = stored .before in
+    let head = read .before .before .before in
+    let l = head .loop in
+    let a = head .before .before .args in
+    let z : ℤ = getD (a .xs .now) (l .i) (pos 0) in
+    let e = held z (read .put-arg2 .given) in (
+      omega arith,
+      stored .put .kept .0 ∙ l .inv .1,
+      filled-suc (a .xs .now) (a .out .now) (l .out) (stored .put .last .0) (l .i) (omega arith) (l .inv .2) (rw e at (stored .put .ensures)),
+    )
 
--- src/words.rt:62:1
 same-length : tie.Need-same-length Inv-loop μ-loop
-same-length c = ?
+same-length c = search needs
 
--- src/words.rt:62:1
 returns : tie.Need-returns Inv-loop μ-loop
-returns c = ?
+returns c =
+    let i : c .before .loop .i ≡ c .before .before .before .args .count = omega arith in
+    rw i at (c .before .loop .inv .2)
 
 pub encode-spec : {M : Type 1} → statement M
 encode-spec =
