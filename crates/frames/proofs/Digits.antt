@@ -4,14 +4,14 @@ use mathlib.Core.Path.{_≡_, refl, sym, ap, ap₂, _∙_}
 use mathlib.Core.Bool.{Bool, true, false, cond, _&&_}
 use mathlib.Core.List.{List, [], _∷_}
 use Prim.Native.Nat.{ℕ, zero, suc, _+_, _-_, _*_, _/_, _<_, _≤_}
+use native.Mathlib.Nat.{add-zero}
 use native.Mathlib.Omega.{arith}
 use borrow.Author.Tests.{leb-true, ltb-true, lt-ltb, le-ltb}
 use lib.Dec.{ltb, leb}
 use lib.ListN.{length, getD, take, drop, length-drop}
-use lib.Seq.{drop-cons, drop-drop, length-take-le}
+use lib.Seq.{drop-cons, drop-drop, getD-drop, length-take-le}
 use Rattle.whole.proofs.Tests.{and-both}
 use Rattle.rules.specs.Frames.{digit, allDigits, unhex, whole, frameOf}
-use Rattle.frames.specs.Line.{pair}
 
 -- ---- digits
 abbrev pub isDigit : ℕ → Bool
@@ -69,19 +69,14 @@ digit-small (suc c) zero (b ∷ t) e h l = ltb-true _ _ (and-both (isDigit b) _ 
 digit-small (suc c) (suc i) (b ∷ t) e h l = digit-small c i t (and-both (isDigit b) _ e .1) (omega arith) (omega arith)
 
 -- ---- bytes
-pub pair-most : (t : List ℕ) → pair t ≤ 272
-unfolding pair
-pair-most t = omega (arith, digit-most (getD t 0 0), digit-most (getD t 1 0))
-
--- a pair among c digits writes a byte
-pub pair-small : (s : List ℕ) (at c i : ℕ) → allDigits (take c (drop at s)) ≡ true → i + 2 ≤ c → at + c ≤ length s → pair (drop (at + i) s) < 256
-unfolding pair
-pair-small s at c i e h l =
-    let d = part-digits s at c i 2 e h in
-    let m = length-drop (at + i) s in
-    let p = digit-small 2 0 (drop (at + i) s) d (omega arith) (omega arith) in
-    let q = digit-small 2 1 (drop (at + i) s) d (omega arith) (omega arith) in
-    omega arith
+-- two digits, each of which is worth less than 16
+pub both-small : (s : List ℕ) (at : ℕ) → at + 1 < length s → allDigits (take 2 (drop at s)) ≡ true
+    → (digit (getD s at 0) < 16) × (digit (getD s (at + 1) 0) < 16)
+both-small s at l d =
+    let m = length-drop at s in (
+      simp (getD-drop, add-zero) at (digit-small 2 0 (drop at s) d (omega arith) (omega arith)),
+      simp getD-drop at (digit-small 2 1 (drop at s) d (omega arith) (omega arith)),
+    )
 
 -- what stands after the digits does not matter
 unhex-cut : (c j : ℕ) (t : List ℕ) → 2 * c ≤ j → unhex c (take j t) ≡ unhex c t

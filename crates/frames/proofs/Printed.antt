@@ -47,11 +47,6 @@ unfolding frame
 frame-length bs = length-append (hex bs) (10 ∷ []) ∙ omega (arith, hex-length bs)
 
 -- ---- numbers
-
-pub number-bytes : (z : ℤ) (x a b c d : ℕ) → x ≡ ofZ w32 z → a ≡ x / 16777216 % 256 → b ≡ x / 65536 % 256 → c ≡ x / 256 % 256 → d ≡ x % 256 → a ∷ b ∷ c ∷ d ∷ [] ≡ bytesOf (z ∷ [])
-unfolding bytesOf
-number-bytes z x a b c d e f g h i = rw (f, g, h, i, e)
-
 part-length : (zs : List ℤ) (from k : ℕ) → from + k ≤ length zs → length (take k (drop from zs)) ≡ k
 part-length zs from k h = length-take-le k (drop from zs) (omega (arith, length-drop from zs))
 

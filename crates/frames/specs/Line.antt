@@ -11,10 +11,6 @@ use Rattle.rules.specs.Frames.{newline, digit, allDigits}
 unfoldable pub pair : List ℕ → ℕ
 pair t = 16 * digit (byteAt t 0) + digit (byteAt t 1)
 
--- the number without sign that the first two bytes, four digits, write
-unfoldable pub wordIn : List ℕ → ℕ
-wordIn t = 256 * pair t + pair (drop 2 t)
-
 -- so many digits, and a newline after them
 unfoldable pub startsLine : (digits : ℕ) → List ℕ → Bool
 startsLine digits t = allDigits (take digits t) && eqb (byteAt t digits) newline

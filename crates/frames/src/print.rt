@@ -1,15 +1,15 @@
 // Printing the program's lines into a lent buffer: each function writes from an index on and answers the next index.
 ghost use mathlib.Core.Path.{_≡_};
 ghost use mathlib.Core.List.{[], _∷_};
-ghost use Prim.Native.Nat.{_+_, _*_, _%_, _<_, _≤_};
+ghost use Prim.Native.Nat.{_+_, _*_, _<_, _≤_};
 ghost use lib.ListN.{length, take, drop};
-ghost use mir.Syntax.{w32};
-ghost use mir.Val.{ofZ};
 ghost use Rattle.rules.specs.Bytes.{bytesOf};
-ghost use Rattle.rules.specs.Bytes as bytes;
+ghost use Rattle.rules.specs.Bytes as rules;
 ghost use Rattle.rules.specs.Frames.{digitOf, rowLines, termLines, refusalLine};
 ghost use Rattle.rules.specs.Frames as frames;
 ghost use Rattle.frames.specs.Output.{Wrote, sizesText, rowText, termText};
+use bytes::four_bytes;
+use bytes::low;
 
 // The digit of a number below 16.
 fn digit(x: u8) -> u8
@@ -17,24 +17,6 @@ fn digit(x: u8) -> u8
     ensures { λ r. ⌜ r ≡ digitOf x ⌝ }
 {
     if x < 10 { 48 + x } else { 87 + x }
-}
-
-// The lowest byte of a number.
-fn low(x: u64) -> u8
-    ensures { λ r. ⌜ r ≡ x % 256 ⌝ }
-{
-    (x % 256) as u8
-}
-
-// The bits of a signed number.
-fn bits(z: i32) -> u64
-    ensures { λ r. ⌜ r ≡ ofZ w32 z ⌝ }
-{
-    if z < 0 {
-        4294967295 - ((-1 - z) as u64)
-    } else {
-        z as u64
-    }
 }
 
 // The digits of some bytes.
@@ -73,8 +55,7 @@ fn number(out: &mut [u8], at: usize, z: i32) -> usize
     requires { ⌜ at + 8 ≤ length (now out) ⌝ }
     ensures { λ r. ⌜ Wrote (now (out .entry)) (now (out .exit)) at (frames.hex (bytesOf (z ∷ []))) r ⌝ }
 {
-    let x = bits(z);
-    let bs = [low(x / 16777216), low(x / 65536), low(x / 256), low(x)];
+    let bs = four_bytes(z);
     hex(out, at, &bs)
 }
 
@@ -128,7 +109,7 @@ fn numbers(out: &mut [u8], at: usize, zs: &[i32], from: usize, count: usize) -> 
 // A line's kind.
 fn kind_byte(out: &mut [u8], at: usize, kind: u32) -> usize
     requires { ⌜ at + 2 ≤ length (now out) ⌝ }
-    ensures { λ r. ⌜ Wrote (now (out .entry)) (now (out .exit)) at (frames.hex (bytes.byte kind)) r ⌝ }
+    ensures { λ r. ⌜ Wrote (now (out .entry)) (now (out .exit)) at (frames.hex (rules.byte kind)) r ⌝ }
 {
     let bs = [low(kind as u64)];
     hex(out, at, &bs)

@@ -4,7 +4,6 @@ ghost use mathlib.Core.Bool.{true};
 ghost use Prim.Native.Nat.{_+_, _*_, _≤_};
 ghost use lib.ListN.{length, take, drop};
 ghost use lib.Seq.{paste};
-ghost use Rattle.rules.specs.Limits.{sizesInRange};
 ghost use Rattle.rules.specs.Bytes.{shorts};
 ghost use Rattle.rules.specs.Frames.{allDigits, unhex, linesOf, readingOf};
 ghost use Rattle.frames.specs.Input.{empty, withRow, withTerm, RowAsks, TermAsks, InputHolds};
@@ -14,6 +13,7 @@ use crate::line::short;
 use crate::line::starts_frame;
 use checks::MOST_TERMS;
 use checks::ROOM_EXPONENTS;
+use checks::sizes_in_range;
 
 // What was read: the number 0 with the sizes and, at the front of each array, the numbers; or a refusal's number and place.
 pub struct Input {
@@ -103,21 +103,6 @@ impl Input {
     }
 }
 
-fn sizes_in_range(m: usize, n: usize) -> bool
-    ensures { λ r. ⌜ r ≡ sizesInRange m n ⌝ }
-{
-    if m < 1 {
-        return false;
-    }
-    if 8 < m {
-        return false;
-    }
-    if n < 1 {
-        return false;
-    }
-    n <= 16
-}
-
 // What the input's lines say.
 pub fn read(text: &[u8]) -> Input
     ensures { λ r. ⌜ InputHolds r (readingOf (linesOf (now (text .entry)))) ⌝ }
@@ -127,7 +112,7 @@ pub fn read(text: &[u8]) -> Input
     }
     let m = byte(text, 2) as usize;
     let n = byte(text, 4) as usize;
-    if !sizes_in_range(m, n) {
+    if !sizes_in_range(m as u32, n as u32) {
         return Input::new(1, 0, 0, 0);
     }
     let mut input = Input::new(0, 0, m, n);

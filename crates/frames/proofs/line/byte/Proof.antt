@@ -1,13 +1,12 @@
--- `frames::line::byte` answers the byte that two digits write; a digit is worth at most 16, so nothing wraps.
+-- `frames::line::byte` answers the byte that two digits write; each is worth less than 16, so nothing wraps.
 -- Assumes nothing.
 use mathlib.Core.Path.{ap₂, _∙_}
 use Prim.Native.Nat.{ℕ, _+_, _*_}
 use native.Mathlib.Nat.{add-zero}
-use lib.ListN.{getD}
+use native.Mathlib.Omega.{arith}
 use lib.Seq.{getD-drop}
 use Rattle.frames.specs.Line.{pair}
-use Rattle.frames.proofs.Digits.{digit-most}
-use native.Mathlib.Omega.{arith}
+use Rattle.frames.proofs.Digits.{both-small}
 use borrow.Author.Needs.{needs}
 use Rattle.frames.proofs.line.byte.Statement.{statement}
 use Rattle.frames.proofs.line.byte.Tie as tie
@@ -20,9 +19,10 @@ digit-requires c κs = search needs
 
 mul-result : tie.Need-mul-result
 mul-result c =
-    let a = c .before .before .before .args in
-    let e = c .digit .ensures in
-    omega (arith, digit-most (getD (a .text .now) (a .at) 0))
+    let entry = c .before .before .before in
+    let small = both-small (entry .args .text .now) (entry .args .at) (entry .pre .0) (entry .pre .1) in
+    let first = c .digit .ensures in
+    omega arith
 
 add-digit : tie.Need-add-digit
 add-digit c = search needs
@@ -35,10 +35,10 @@ digit-requires-2 c κs = search needs
 
 add-result : tie.Need-add-result
 add-result c =
-    let a = c .before .before .before .before .before .args in
-    let e = c .before .before .digit .ensures in
-    let f = c .digit2 .ensures in
-    omega (arith, digit-most (getD (a .text .now) (a .at) 0), digit-most (getD (a .text .now) (a .at + 1) 0))
+    let first = c .before .before in
+    let entry = first .before .before .before in
+    let small = both-small (entry .args .text .now) (entry .args .at) (entry .pre .0) (entry .pre .1) in
+    omega (arith, first .digit .ensures, c .digit2 .ensures)
 
 returns : tie.Need-returns
 unfolding pair

@@ -1,6 +1,5 @@
 -- `frames::line::digit` answers what the byte is worth: each branch is a case of the definition.
 -- Assumes nothing.
-use mathlib.Core.Path.{_∙_}
 use Prim.Native.Nat.{_<_}
 use borrow.Author.Tests.{le-leb, lt-leb}
 use Rattle.rules.specs.Frames.{digit}
@@ -9,22 +8,16 @@ use borrow.Author.Needs.{needs}
 use Rattle.frames.proofs.line.digit.Statement.{statement}
 use Rattle.frames.proofs.line.digit.Tie as tie
 
-wide-requires : tie.Need-wide-requires
-wide-requires c κs = search needs
-
 returns : tie.Need-returns
 unfolding digit
-returns c = c .wide .ensures ∙ simp (le-leb _ _ (c .before .before .if1 .taken), le-leb _ _ (c .before .if2 .taken))
+returns c = simp (le-leb _ _ (c .before .if1 .taken), le-leb _ _ (c .if2 .taken))
 
-sub-wide : tie.Need-sub-wide
-sub-wide c = search needs
-
-wide-requires-2 : tie.Need-wide-requires-2
-wide-requires-2 c κs = search needs
+sub-result : tie.Need-sub-result
+sub-result c = search needs
 
 returns-2 : tie.Need-returns-2
 unfolding digit
-returns-2 c = c .wide2 .ensures ∙ simp (le-leb _ _ (c .before .before .before .before .if1 .taken), lt-leb _ _ (c .before .before .before .if2 .left), le-leb _ _ (c .before .before .if3 .taken), le-leb _ _ (c .before .if4 .taken))
+returns-2 c = simp (le-leb _ _ (c .before .before .before .if1 .taken), lt-leb _ _ (c .before .before .if2 .left), le-leb _ _ (c .before .if3 .taken), le-leb _ _ (c .if4 .taken))
 
 returns-3 : tie.Need-returns-3
 unfolding digit
@@ -39,14 +32,4 @@ unfolding digit
 returns-5 c = let h : c .before .args .b < 97 = omega arith in simp (lt-leb _ _ (c .if1 .left), lt-leb _ _ h)
 
 pub digit-spec : {M : Type 1} → statement M
-digit-spec =
-    tie.close
-    (tie.spec
-    wide-requires
-    returns
-    sub-wide
-    wide-requires-2
-    returns-2
-    returns-3
-    returns-4
-    returns-5)
+digit-spec = tie.close (tie.spec returns sub-result returns-2 returns-3 returns-4 returns-5)

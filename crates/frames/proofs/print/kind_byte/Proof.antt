@@ -22,7 +22,10 @@ same-length : tie.Need-same-length
 same-length c = search needs
 
 returns : tie.Need-returns
-returns c = wrote-same (ap (λ (b : ℕ). hex (b ∷ [])) (c .before .before .before .before .before .low .ensures)) (c .before .before .hex .ensures)
+returns c =
+    let written = c .before .before in
+    let made = written .before .before .before in
+    wrote-same (ap (λ (b : ℕ). hex (b ∷ [])) (made .low .ensures)) (written .hex .ensures)
 
 pub kind-byte-spec : {M : Type 1} → statement M
 kind-byte-spec =

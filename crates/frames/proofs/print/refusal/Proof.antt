@@ -28,7 +28,10 @@ same-length c = search needs
 
 returns : tie.Need-returns
 unfolding refusalLine
-returns c = rw (← c .before .before .before .before .before .before .before .low .ensures, ← c .before .before .before .before .before .before .low2 .ensures, ← c .before .before .before .before .before .low3 .ensures) (c .before .before .frame .ensures)
+returns c =
+    let written = c .before .before in
+    let last = written .before .before .before in
+    rw (← last .before .before .low .ensures, ← last .before .low2 .ensures, ← last .low3 .ensures) (written .frame .ensures)
 
 pub refusal-spec : {M : Type 1} → statement M
 refusal-spec =

@@ -40,7 +40,21 @@ same-length c = search needs
 
 returns : tie.Need-returns
 unfolding sizesText
-returns c = rw (← c .before .before .before .before .before .before .before .before .before .before .before .before .low .ensures, ← c .before .before .before .before .before .before .before .before .before .before .before .low2 .ensures, ← c .before .before .before .before .before .before .before .before .before .before .low3 .ensures, ← c .before .before .before .before .before .before .before .before .before .low4 .ensures, ← c .before .before .before .before .before .before .before .before .low5 .ensures, ← c .before .before .before .before .before .before .before .low6 .ensures, ← c .before .before .before .before .before .before .low7 .ensures, ← c .before .before .before .before .before .low8 .ensures) (c .before .before .frame .ensures)
+returns c =
+    let written = c .before .before in
+    let eight = written .before .before .before in
+    let five = eight .before .before .before in
+    let two = five .before .before .before in
+    rw (
+      ← two .before .low .ensures,
+      ← two .low2 .ensures,
+      ← five .before .before .low3 .ensures,
+      ← five .before .low4 .ensures,
+      ← five .low5 .ensures,
+      ← eight .before .before .low6 .ensures,
+      ← eight .before .low7 .ensures,
+      ← eight .low8 .ensures,
+    ) (written .frame .ensures)
 
 pub sizes-spec : {M : Type 1} → statement M
 sizes-spec =
