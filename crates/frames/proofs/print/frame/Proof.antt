@@ -8,18 +8,29 @@ use borrow.Author.Needs.{needs}
 use Rattle.frames.proofs.print.frame.Statement.{statement}
 use Rattle.frames.proofs.print.frame.Tie as tie
 
+abbrev entry : tie.After-hex-arg → tie.Start
+entry c = c .before .before .before
+
+abbrev digits : tie.After-newline-arg → tie.After-hex
+digits c = c .before .before .before
+
 hex-requires : tie.Need-hex-requires
 hex-requires c κs = search needs
 
 newline-requires : tie.Need-newline-requires
-newline-requires c κs = omega (arith, hex-length (c .before .before .before .before .before .before .before .args .bs .now), c .before .before .before .hex .ensures .next-is, c .before .before .before .hex .kept .0)
+newline-requires c κs =
+    let d = digits c in
+    omega (arith, hex-length (entry (d .before) .args .bs .now), d .hex .ensures .next-is, d .hex .kept .0)
 
 same-length : tie.Need-same-length
 same-length c = search needs
 
 returns : tie.Need-returns
 unfolding frame
-returns c = wrote-both (c .before .before .before .before .before .before .hex .ensures) (c .before .before .newline .ensures) (omega (arith, hex-length (c .before .before .before .before .before .before .before .before .before .before .args .bs .now)))
+returns c =
+    let ended = c .before .before in
+    let d = digits (ended .before) in
+    wrote-both (d .hex .ensures) (ended .newline .ensures) (omega (arith, hex-length (entry (d .before) .args .bs .now)))
 
 pub frame-spec : {M : Type 1} → statement M
 frame-spec = tie.close (tie.spec hex-requires newline-requires same-length returns)

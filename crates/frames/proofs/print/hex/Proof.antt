@@ -19,6 +19,12 @@ Inv-loop out₀ at bs k₀ out k = (k ≤ length bs) × Wrote out₀ out at (hex
 abbrev μ-loop : tie.MeasureT-loop
 μ-loop out₀ at bs k₀ out k = length bs - k
 
+abbrev entry : tie.At-loop Inv-loop μ-loop → tie.Start Inv-loop μ-loop
+entry c = c .before .before .before
+
+abbrev head : tie.After-digit Inv-loop μ-loop → tie.At-loop Inv-loop μ-loop
+head c = c .before .before .before
+
 loop-holds : tie.Need-loop-holds Inv-loop μ-loop
 unfolding hex
 loop-holds c =
@@ -39,10 +45,9 @@ add-out c = omega arith
 
 slice-write-out : tie.Need-slice-write-out Inv-loop μ-loop
 slice-write-out c =
-    let a = c .before .before .before .before .before .before .args in
-    let l = c .before .before .before .loop in
-    let q = c .before .before .before .before .before .before .pre in
-    let n = byte-length (a .bs .now) (l .k) q (l .inv .1) (l .inv .0) in
+    let a = entry (head c) .args in
+    let l = head c .loop in
+    let n = byte-length (a .bs .now) (l .k) (entry (head c) .pre) (l .inv .1) (l .inv .0) in
     omega arith
 
 shared-slice-read-digit-2 : tie.Need-shared-slice-read-digit-2 Inv-loop μ-loop
@@ -62,10 +67,10 @@ add-out-3 c = omega arith
 
 slice-write-out-2 : tie.Need-slice-write-out-2 Inv-loop μ-loop
 slice-write-out-2 c =
-    let a = c .before .before .before .before .before .before .before .before .args in
-    let l = c .before .before .before .before .before .loop in
-    let q = c .before .before .before .before .before .before .before .before .pre in
-    let n = byte-length (a .bs .now) (l .k) q (l .inv .1) (l .inv .0) in
+    let high = c .before .before in
+    let a = entry (head high) .args in
+    let l = head high .loop in
+    let n = byte-length (a .bs .now) (l .k) (entry (head high) .pre) (l .inv .1) (l .inv .0) in
     simp length-set (omega arith)
 
 add-k : tie.Need-add-k Inv-loop μ-loop
@@ -76,10 +81,10 @@ loop-less c = omega arith
 
 loop-again : tie.Need-loop-again Inv-loop μ-loop
 loop-again c =
-    let a = c .before .before .before .before .before .before .before .before .args in
-    let l = c .before .before .before .before .before .loop in
-    let q = c .before .before .before .before .before .before .before .before .pre in
-    (omega arith, byte-again (a .bs .now) (l .k) q (l .inv .1) (omega arith) _ _ (c .before .before .digit .ensures) (c .digit2 .ensures))
+    let high = c .before .before in
+    let a = entry (head high) .args in
+    let l = head high .loop in
+    (omega arith, byte-again (a .bs .now) (l .k) (entry (head high) .pre) (l .inv .1) (omega arith) _ _ (high .digit .ensures) (c .digit2 .ensures))
 
 mul-result : tie.Need-mul-result Inv-loop μ-loop
 mul-result c = omega arith
@@ -89,14 +94,12 @@ add-result c = omega arith
 
 same-length : tie.Need-same-length Inv-loop μ-loop
 same-length c =
-    let a = c .before .before .before .before .args in
     let l = c .before .loop in
-    let q = c .before .before .before .before .pre in
-    byte-length (a .bs .now) (l .k) q (l .inv .1) (l .inv .0)
+    byte-length (entry (c .before) .args .bs .now) (l .k) (entry (c .before) .pre) (l .inv .1) (l .inv .0)
 
 returns : tie.Need-returns Inv-loop μ-loop
 returns c =
-    let a = c .before .before .before .before .args in
+    let a = entry (c .before) .args in
     let l = c .before .loop in
     let e : l .k ≡ length (a .bs .now) = omega arith in
     let w = l .inv .1 in

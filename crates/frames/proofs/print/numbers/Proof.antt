@@ -19,6 +19,12 @@ Inv-loop out₀ at zs from count p₀ k₀ out p k = (k ≤ count) × Wrote out�
 abbrev μ-loop : tie.MeasureT-loop
 μ-loop out₀ at zs from count p₀ k₀ out p k = count - k
 
+abbrev entry : tie.At-loop Inv-loop μ-loop → tie.Start Inv-loop μ-loop
+entry c = c .before .before
+
+abbrev head : tie.After-number-arg2 Inv-loop μ-loop → tie.At-loop Inv-loop μ-loop
+head c = c .before .before .before
+
 loop-holds : tie.Need-loop-holds Inv-loop μ-loop
 unfolding bytesOf hex
 loop-holds c =
@@ -36,9 +42,9 @@ shared-slice-copy-out-number c = omega arith
 
 number-requires : tie.Need-number-requires Inv-loop μ-loop
 number-requires c κs =
-    let a = c .before .before .before .before .before .args in
-    let l = c .before .before .before .loop in
-    let q = c .before .before .before .before .before .pre in
+    let a = entry (head c) .args in
+    let l = head c .loop in
+    let q = entry (head c) .pre in
     number-room (a .zs .now) (a .from) (l .k) (a .count) (omega arith) (q .0) (q .1) (l .inv .1)
 
 add-k : tie.Need-add-k Inv-loop μ-loop
@@ -49,10 +55,12 @@ loop-less c = omega arith
 
 loop-again : tie.Need-loop-again Inv-loop μ-loop
 loop-again c =
-    let a = c .before .before .before .before .before .before .before .before .args in
-    let l = c .before .before .before .before .before .before .loop in
-    let q = c .before .before .before .before .before .before .before .before .pre in
-    (omega arith, number-again (a .zs .now) (a .from) (l .k) (a .count) (omega arith) (q .0) (q .1) (l .inv .1) _ (c .before .before .number .ensures) (held _ (c .before .before .before .number-arg2 .given)))
+    let written = c .before .before in
+    let read = written .before in
+    let a = entry (head read) .args in
+    let l = head read .loop in
+    let q = entry (head read) .pre in
+    (omega arith, number-again (a .zs .now) (a .from) (l .k) (a .count) (omega arith) (q .0) (q .1) (l .inv .1) _ (written .number .ensures) (held _ (read .number-arg2 .given)))
 
 same-length : tie.Need-same-length Inv-loop μ-loop
 same-length c =

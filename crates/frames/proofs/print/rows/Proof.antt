@@ -17,6 +17,12 @@ Inv-loop out₀ at kind zs count width p₀ i₀ out p i = (i ≤ count) × Wrot
 abbrev μ-loop : tie.MeasureT-loop
 μ-loop out₀ at kind zs count width p₀ i₀ out p i = count - i
 
+abbrev entry : tie.At-loop Inv-loop μ-loop → tie.Start Inv-loop μ-loop
+entry c = c .before .before
+
+abbrev head : tie.After-row-arg Inv-loop μ-loop → tie.At-loop Inv-loop μ-loop
+head c = c .before .before
+
 loop-holds : tie.Need-loop-holds Inv-loop μ-loop
 unfolding rowLines
 loop-holds c =
@@ -25,32 +31,34 @@ loop-holds c =
 
 mul-row : tie.Need-mul-row Inv-loop μ-loop
 mul-row c =
-    let a = c .before .before .before .before .args in
-    let l = c .before .before .loop in
-    let q = c .before .before .before .before .pre in
+    let a = entry (head c) .args in
+    let l = head c .loop in
+    let q = entry (head c) .pre in
     omega (arith, row-inside (a .kind) (l .i) (a .count) (a .width) (a .zs .now) (omega arith) (q .0) (q .1) (l .inv .1))
 
 row-requires : tie.Need-row-requires Inv-loop μ-loop
 row-requires c κs =
-    let a = c .before .before .before .before .args in
-    let l = c .before .before .loop in
-    let q = c .before .before .before .before .pre in (
+    let a = entry (head c) .args in
+    let l = head c .loop in
+    let q = entry (head c) .pre in (
       row-inside (a .kind) (l .i) (a .count) (a .width) (a .zs .now) (omega arith) (q .0) (q .1) (l .inv .1),
       row-room (a .kind) (l .i) (a .count) (a .width) (a .zs .now) (omega arith) (q .0) (q .1) (l .inv .1),
     )
 
 add-i : tie.Need-add-i Inv-loop μ-loop
-add-i c = omega (arith, c .before .before .before .before .before .before .before .fits .count)
+add-i c = omega (arith, entry (head (c .before .before .before)) .fits .count)
 
 loop-less : tie.Need-loop-less Inv-loop μ-loop
 loop-less c = omega arith
 
 loop-again : tie.Need-loop-again Inv-loop μ-loop
 loop-again c =
-    let a = c .before .before .before .before .before .before .before .args in
-    let l = c .before .before .before .before .before .loop in
-    let q = c .before .before .before .before .before .before .before .pre in
-    (omega arith, row-again (a .kind) (l .i) (a .count) (a .width) (a .zs .now) (omega arith) (q .0) (q .1) (l .inv .1) (c .before .before .row .ensures))
+    let written = c .before .before in
+    let at = head (written .before) in
+    let a = entry at .args in
+    let l = at .loop in
+    let q = entry at .pre in
+    (omega arith, row-again (a .kind) (l .i) (a .count) (a .width) (a .zs .now) (omega arith) (q .0) (q .1) (l .inv .1) (written .row .ensures))
 
 same-length : tie.Need-same-length Inv-loop μ-loop
 same-length c =

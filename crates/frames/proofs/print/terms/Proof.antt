@@ -19,6 +19,12 @@ Inv-loop out₀ at cs es count d p₀ i₀ out p i = (i ≤ count) × Wrote out�
 abbrev μ-loop : tie.MeasureT-loop
 μ-loop out₀ at cs es count d p₀ i₀ out p i = count - i
 
+abbrev entry : tie.At-loop Inv-loop μ-loop → tie.Start Inv-loop μ-loop
+entry c = c .before .before
+
+abbrev head : tie.After-term-arg2 Inv-loop μ-loop → tie.At-loop Inv-loop μ-loop
+head c = c .before .before .before
+
 loop-holds : tie.Need-loop-holds Inv-loop μ-loop
 unfolding termLines
 loop-holds c =
@@ -33,16 +39,16 @@ shared-slice-copy-out-term c = omega arith
 
 mul-term-2 : tie.Need-mul-term-2 Inv-loop μ-loop
 mul-term-2 c =
-    let a = c .before .before .before .before .before .args in
-    let l = c .before .before .before .loop in
-    let q = c .before .before .before .before .before .pre in
+    let a = entry (head c) .args in
+    let l = head c .loop in
+    let q = entry (head c) .pre in
     omega (arith, term-inside (a .d) (l .i) (a .count) (a .cs .now) (a .es .now) (omega arith) (q .0 .0) (q .0 .1) (q .1) (l .inv .1))
 
 term-requires : tie.Need-term-requires Inv-loop μ-loop
 term-requires c κs =
-    let a = c .before .before .before .before .before .args in
-    let l = c .before .before .before .loop in
-    let q = c .before .before .before .before .before .pre in
+    let a = entry (head c) .args in
+    let l = head c .loop in
+    let q = entry (head c) .pre in
     (term-inside (a .d) (l .i) (a .count) (a .cs .now) (a .es .now) (omega arith) (q .0 .0) (q .0 .1) (q .1) (l .inv .1), term-room (a .d) (l .i) (a .count) (a .cs .now) (a .es .now) (omega arith) (q .0 .0) (q .0 .1) (q .1) (l .inv .1))
 
 add-i : tie.Need-add-i Inv-loop μ-loop
@@ -53,10 +59,12 @@ loop-less c = omega arith
 
 loop-again : tie.Need-loop-again Inv-loop μ-loop
 loop-again c =
-    let a = c .before .before .before .before .before .before .before .before .args in
-    let l = c .before .before .before .before .before .before .loop in
-    let q = c .before .before .before .before .before .before .before .before .pre in
-    (omega arith, term-again (a .d) (l .i) (a .count) (a .cs .now) (a .es .now) (omega arith) (q .0 .0) (q .0 .1) (q .1) (l .inv .1) _ (held _ (c .before .before .before .term-arg2 .given)) (c .before .before .term .ensures))
+    let written = c .before .before in
+    let read = written .before in
+    let a = entry (head read) .args in
+    let l = head read .loop in
+    let q = entry (head read) .pre in
+    (omega arith, term-again (a .d) (l .i) (a .count) (a .cs .now) (a .es .now) (omega arith) (q .0 .0) (q .0 .1) (q .1) (l .inv .1) _ (held _ (read .term-arg2 .given)) (written .term .ensures))
 
 same-length : tie.Need-same-length Inv-loop μ-loop
 same-length c =
