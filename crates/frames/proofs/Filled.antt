@@ -63,7 +63,7 @@ throughV x h v = throughH x h ++ rowLines 0x83 (columns x) (columns x) v
 abbrev throughW : Sizes → (h v w : List ℤ) → List ℕ
 throughW x h v w = throughV x h v ++ rowLines 0x84 (columns x) (columns x) w
 
-module _ (x : Sizes) (h v w cs es : List ℤ) (room : Room x h v w cs es) where
+module _ {x : Sizes} {h v w cs es : List ℤ} (room : Room x h v w cs es) where
   h-size : x .m * (3 + 8 * columns x) ≤ 1560
   h-size = mul-le-mul {n₂ = 8} {m₂ = 195} (room .few-rows) (omega (arith, room .few-columns))
 

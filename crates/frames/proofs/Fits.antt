@@ -22,7 +22,7 @@ pub filled-room : (contents lent after : List ℤ) {k : ℕ} → after ≡ fille
 filled-room contents lent after e h = omega (arith, ap length e, length-append contents (drop (length contents) lent), length-drop (length contents) lent)
 
 -- ---- what was read
-module _ (x : Input) (z : Sized x) where
+module _ {x : Input} (z : Sized x) where
   matrix-room : x .m * x .n ≤ 128
   matrix-room = mul-le-mul {n₂ = 8} {m₂ = 16} (z .few-rows) (z .few-columns)
 

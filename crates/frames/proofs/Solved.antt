@@ -29,14 +29,14 @@ use Rattle.frames.specs.Output.{Room, solutionText, sizesText, IsTransla
 use Rattle.frames.proofs.Printed.{rows-same, terms-front}
 use Rattle.frames.proofs.Fits.{filled-room, few-moduli, coefficients-length, problem-fits, formula-fits}
 
-module _ (x : Input) (z : Sized x) where
+module _ {x : Input} (z : Sized x) where
   -- ---- the translation
   module _ (kept₀ translated₀ : List ℤ) {kept translated : List ℤ} {t : TranslateAnswer} (kept₀-room : length kept₀ ≡ 64) (translated₀-room : length translated₀ ≡ 1024)
       (h : Translates (translateOf (problemIn x) (formulaIn x) kept₀ translated₀) t kept translated) where
     translation-is : Translates (translatedTo (problemIn x) (formulaIn x) kept₀ translated₀ (translateVerdict (problemIn x) (formulaIn x) true true)) t kept translated
     unfolding translateOf
     translation-is =
-        let inputs : problemFits (problemIn x) && formulaFits (problemIn x) (formulaIn x) ≡ true = ap₂ _&&_ (problem-fits x z) (formula-fits x z) in
+        let inputs : problemFits (problemIn x) && formulaFits (problemIn x) (formulaIn x) ≡ true = ap₂ _&&_ (problem-fits z) (formula-fits z) in
         let outputs : leb 64 (length kept₀) && leb 1024 (length translated₀) ≡ true
         = ap₂ _&&_ (le-leb 64 (length kept₀) (omega arith)) (le-leb 1024 (length translated₀) (omega arith)) in
         let e : translateOf (problemIn x) (formulaIn x) kept₀ translated₀
@@ -83,7 +83,7 @@ module _ (x : Input) (z : Sized x) where
         let outputs : leb 192 (length h₀) && leb 576 (length v₀) && leb 576 (length w₀) ≡ true
         = ap₂ _&&_ (ap₂ _&&_ (le-leb 192 (length h₀) (omega arith)) (le-leb 576 (length v₀) (omega arith))) (le-leb 576 (length w₀) (omega arith)) in
         let e : buildOf (problemIn x) h₀ v₀ w₀ ≡ built (problemIn x) h₀ v₀ w₀ taken
-        = ap₂ (λ (i o : Bool). built (problemIn x) h₀ v₀ w₀ (buildVerdict (problemIn x) i o)) (problem-fits x z) outputs
+        = ap₂ (λ (i o : Bool). built (problemIn x) h₀ v₀ w₀ (buildVerdict (problemIn x) i o)) (problem-fits z) outputs
         ∙ ap (built (problemIn x) h₀ v₀ w₀) (build-taken (problemIn x) true true (formulaIn x) (t .verdict)) in
         subst (λ (r : Built ℤ). Builds r b h v w) e y
 
@@ -95,11 +95,11 @@ module _ (x : Input) (z : Sized x) where
     sizes = record { m = x .m; n = x .n; s = b .moduli; r = b .rank; steps = b .steps; d = groups; terms = x .terms }
 
     few-exponents : x .terms * groups ≤ 1024
-    few-exponents = rw (← (coefficients-length x z), t .d-is, ← translated-length) (t .exponents-fit)
+    few-exponents = rw (← (coefficients-length z), t .d-is, ← translated-length) (t .exponents-fit)
 
     pub solution-room : Room sizes h v w kept translated
     solution-room =
-        let columns : x .n + b .moduli ≤ 24 = omega (arith, build-is .moduli, (few-moduli x z), z .few-columns) in
+        let columns : x .n + b .moduli ≤ 24 = omega (arith, build-is .moduli, few-moduli z, z .few-columns) in
         let high : x .m * (x .n + b .moduli) ≤ 192 = mul-le-mul {n₂ = 8} {m₂ = 24} (z .few-rows) columns in
         let square : (x .n + b .moduli) * (x .n + b .moduli) ≤ 576 = mul-le-mul {n₂ = 24} {m₂ = 24} columns columns in
         record {
@@ -136,7 +136,7 @@ module _ (x : Input) (z : Sized x) where
     terms-same : termLines groups (take (x .terms) kept) translated ≡ termLines (d (problemIn x) (run (problemIn x))) (formulaIn x .coefficients) (translatedExponents (problemIn x) (formulaIn x))
     terms-same =
         let es : List ℤ = translatedExponents (problemIn x) (formulaIn x) in
-        let cs : take (x .terms) kept ≡ formulaIn x .coefficients = ap (λ (k : ℕ). take k kept) (sym (coefficients-length x z)) ∙ t .coefficients in
+        let cs : take (x .terms) kept ≡ formulaIn x .coefficients = ap (λ (k : ℕ). take k kept) (sym (coefficients-length z)) ∙ t .coefficients in
         let split : translated ≡ es ++ drop (length es) translated
         = sym (take-append-drop (length es) translated) ∙ ap (λ (r : List ℤ). r ++ drop (length es) translated) (t .exponents) in
         ap (termLines groups (take (x .terms) kept)) split

@@ -16,6 +16,12 @@ Inv-loop s at count k₀ k = (k ≤ count) × (allDigits (take count (drop at s)
 abbrev μ-loop : tie.MeasureT-loop
 μ-loop s at count k₀ k = count - k
 
+abbrev entry : tie.At-loop Inv-loop μ-loop → tie.Start Inv-loop μ-loop
+entry c = c .before .before
+
+abbrev head : tie.After-digit Inv-loop μ-loop → tie.At-loop Inv-loop μ-loop
+head c = c .before .before .before
+
 loop-holds : tie.Need-loop-holds Inv-loop μ-loop
 loop-holds c = (omega arith, simp (sub-zero, add-zero))
 
@@ -30,8 +36,8 @@ digit-requires c κs = tt
 
 returns : tie.Need-returns Inv-loop μ-loop
 returns c =
-    let a = c .before .before .before .before .before .before .args in
-    let l = c .before .before .before .before .loop in
+    let a = entry (head (c .before)) .args in
+    let l = head (c .before) .loop in
     digits-stop (a .text .now) (a .at) (a .count) (l .k) (omega arith) (omega arith) (l .inv .1) (sym (c .before .digit .ensures) ∙ c .if1 .taken)
 
 add-k : tie.Need-add-k Inv-loop μ-loop
@@ -42,8 +48,8 @@ loop-less c = omega arith
 
 loop-again : tie.Need-loop-again Inv-loop μ-loop
 loop-again c =
-    let a = c .before .before .before .before .before .before .args in
-    let l = c .before .before .before .before .loop in
+    let a = entry (head (c .before)) .args in
+    let l = head (c .before) .loop in
     (omega arith, digits-on (a .text .now) (a .at) (a .count) (l .k) (omega arith) (omega arith) (l .inv .1) (λ e. c .if1 .left (c .before .digit .ensures ∙ e)))
 
 returns-2 : tie.Need-returns-2 Inv-loop μ-loop

@@ -18,6 +18,9 @@ Inv-loop a₀ from s at count k₀ a k = (k ≤ count) × (a ≡ paste a₀ from
 abbrev μ-loop : tie.MeasureT-loop
 μ-loop a₀ from s at count k₀ a k = count - k
 
+abbrev entry : tie.At-loop Inv-loop μ-loop → tie.Start Inv-loop μ-loop
+entry c = c .before .before
+
 loop-holds : tie.Need-loop-holds Inv-loop μ-loop
 loop-holds c =
     let a = c .before .args in
@@ -44,9 +47,9 @@ mul-t12 c = omega arith
 
 slice-set-from-a : tie.Need-slice-set-from-a Inv-loop μ-loop
 slice-set-from-a c =
-    let a = c .before .before .before .before .args in
+    let a = entry (c .before .before) .args in
     let l = c .before .before .loop in
-    let h = fill-length (a .a .now) (a .from) (a .text .now) (a .at) (a .count) (l .k) (l .inv .0) (c .before .before .before .before .pre .0) in
+    let h = fill-length (a .a .now) (a .from) (a .text .now) (a .at) (a .count) (l .k) (l .inv .0) (entry (c .before .before) .pre .0) in
     let e = ap length (l .inv .1) in
     omega arith
 
@@ -58,9 +61,9 @@ loop-less c = omega arith
 
 loop-again : tie.Need-loop-again Inv-loop μ-loop
 loop-again c =
-    let a = c .before .before .before .before .args in
+    let a = entry (c .before .before) .args in
     let l = c .before .before .loop in
-    (omega arith, fill-again (a .a .now) (a .from) (a .text .now) (a .at) (a .count) (l .k) (l .a) _ (omega arith) (c .before .before .before .before .pre .0) (l .inv .1) (held _ (c .short .ok) ∙ c .short .ensures))
+    (omega arith, fill-again (a .a .now) (a .from) (a .text .now) (a .at) (a .count) (l .k) (l .a) _ (omega arith) (entry (c .before .before) .pre .0) (l .inv .1) (held _ (c .short .ok) ∙ c .short .ensures))
 
 same-length : tie.Need-same-length Inv-loop μ-loop
 same-length c =

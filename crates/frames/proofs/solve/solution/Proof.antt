@@ -6,6 +6,22 @@ use borrow.Author.Needs.{needs}
 use Rattle.frames.proofs.solve.solution.Statement.{statement}
 use Rattle.frames.proofs.solve.solution.Tie as tie
 
+-- after the sizes were written, after the rows of H, of V and of W
+abbrev entry : tie.After-struct-known3 → tie.Start
+entry c = c .before .before .before
+
+abbrev sizes : tie.After-out3 → tie.After-sizes
+sizes c = c .before .before
+
+abbrev h : tie.After-out5 → tie.After-rows
+h c = c .before .before
+
+abbrev v : tie.After-out7 → tie.After-rows2
+v c = c .before .before
+
+abbrev w : tie.After-out9 → tie.After-rows3
+w c = c .before .before
+
 cast-m : tie.Need-cast-m
 cast-m c = search needs
 
@@ -29,42 +45,48 @@ slice-aggregate-rows c = search needs
 
 rows-requires : tie.Need-rows-requires
 rows-requires c κs =
-    let a = c .before .before .before .before .before .before .before .args in
-    let q = c .before .before .before .before .before .before .before .pre in
-    (q .h-room, room-h (a .x) (a .h .now) (a .v .now) (a .w .now) (a .coefficients .now) (a .exponents .now) q refl (c .before .before .sizes .ensures))
+    let s = sizes c in
+    let q = entry (s .before .before) .pre in
+    (q .h-room, room-h q refl (s .sizes .ensures))
 
 slice-aggregate-rows-2 : tie.Need-slice-aggregate-rows-2
 slice-aggregate-rows-2 c = search needs
 
 rows-requires-2 : tie.Need-rows-requires-2
 rows-requires-2 c κs =
-    let a = c .before .before .before .before .before .before .before .before .before .before .args in
-    let q = c .before .before .before .before .before .before .before .before .before .before .pre in
-    (q .v-room, room-v (a .x) (a .h .now) (a .v .now) (a .w .now) (a .coefficients .now) (a .exponents .now) q refl (c .before .before .before .before .before .sizes .ensures) (c .before .before .rows .ensures))
+    let s = sizes (h c .before) in
+    let q = entry (s .before .before) .pre in
+    (q .v-room, room-v q refl (s .sizes .ensures) (h c .rows .ensures))
 
 slice-aggregate-rows-3 : tie.Need-slice-aggregate-rows-3
 slice-aggregate-rows-3 c = search needs
 
 rows-requires-3 : tie.Need-rows-requires-3
 rows-requires-3 c κs =
-    let a = c .before .before .before .before .before .before .before .before .before .before .before .before .before .args in
-    let q = c .before .before .before .before .before .before .before .before .before .before .before .before .before .pre in
-    (q .w-room, room-w (a .x) (a .h .now) (a .v .now) (a .w .now) (a .coefficients .now) (a .exponents .now) q refl (c .before .before .before .before .before .before .before .before .sizes .ensures) (c .before .before .before .before .before .rows .ensures) (c .before .before .rows2 .ensures))
+    let y = h (v c .before) in
+    let s = sizes (y .before) in
+    let q = entry (s .before .before) .pre in
+    (q .w-room, room-w q refl (s .sizes .ensures) (y .rows .ensures) (v c .rows2 .ensures))
 
 slice-aggregate-terms : tie.Need-slice-aggregate-terms
 slice-aggregate-terms c = search needs
 
 terms-requires : tie.Need-terms-requires
 terms-requires c κs =
-    let a = c .before .before .before .before .before .before .before .before .before .before .before .before .before .before .before .before .args in
-    let q = c .before .before .before .before .before .before .before .before .before .before .before .before .before .before .before .before .pre in
-    ((q .coefficients-room, q .exponents-room), room-terms (a .x) (a .h .now) (a .v .now) (a .w .now) (a .coefficients .now) (a .exponents .now) q refl (c .before .before .before .before .before .before .before .before .before .before .before .sizes .ensures) (c .before .before .before .before .before .before .before .before .rows .ensures) (c .before .before .before .before .before .rows2 .ensures) (c .before .before .rows3 .ensures))
+    let z = v (w c .before) in
+    let y = h (z .before) in
+    let s = sizes (y .before) in
+    let q = entry (s .before .before) .pre in
+    ((q .coefficients-room, q .exponents-room), room-terms q refl (s .sizes .ensures) (y .rows .ensures) (z .rows2 .ensures) (w c .rows3 .ensures))
 
 returns : tie.Need-returns
 returns c =
-    let a = c .before .before .before .before .before .before .before .before .before .before .before .before .before .before .before .before .before .before .args in
-    let q = c .before .before .before .before .before .before .before .before .before .before .before .before .before .before .before .before .before .before .pre in
-    solution-shows (a .x) (a .h .now) (a .v .now) (a .w .now) (a .coefficients .now) (a .exponents .now) q refl (c .before .before .before .before .before .before .before .before .before .before .before .before .before .sizes .ensures) (c .before .before .before .before .before .before .before .before .before .before .rows .ensures) (c .before .before .before .before .before .before .before .rows2 .ensures) (c .before .before .before .before .rows3 .ensures) (c .before .terms .ensures)
+    let x = w (c .before .before) in
+    let z = v (x .before) in
+    let y = h (z .before) in
+    let s = sizes (y .before) in
+    let q = entry (s .before .before) .pre in
+    solution-shows q refl (s .sizes .ensures) (y .rows .ensures) (z .rows2 .ensures) (x .rows3 .ensures) (c .before .terms .ensures)
 
 pub solution-spec : {M : Type 1} → statement M
 solution-spec =

@@ -1,14 +1,36 @@
 -- `frames::solve::solve` shows the answer to what was read: the refusal of the translation, or the solution.
 -- Assumes nothing.
-use mathlib.Core.Path.{sym, _∙_}
-use lib.ListN.{replicate, length-replicate}
-use lib.IntN.{pos}
+use mathlib.Core.Path.{_≡_, sym, _∙_}
+use mathlib.Core.List.{List}
+use Prim.Native.Nat.{ℕ}
+use lib.ListN.{length, replicate, length-replicate}
+use lib.IntN.{ℤ, pos}
 use Rattle.frames.proofs.Fits.{matrix-fits, exponents-fit, matrix-length, moduli-length, coefficients-length, exponents-length}
 use Rattle.frames.proofs.Solved.{refused-text, verdict-is, is-translated}
 use native.Mathlib.Omega.{arith}
 use borrow.Author.Needs.{needs}
 use Rattle.frames.proofs.solve.solve.Statement.{statement}
 use Rattle.frames.proofs.solve.solve.Tie as tie
+
+-- the arrays that are lent for the outputs
+abbrev fresh : (count : ℕ) → List ℤ
+fresh count = replicate count (pos 0)
+
+room : (count : ℕ) → length (fresh count) ≡ count
+room count = length-replicate count (pos 0)
+
+-- after the fields were copied, after they were lent, after the translation
+abbrev entry : tie.After-exponents → tie.Start
+entry c = let moduli = c .before .before in moduli .before .before
+
+abbrev copied : tie.After-coefficients2 → tie.After-exponents
+copied c = c .before .before .before
+
+abbrev start : tie.After-translate → tie.Start
+start c = let lent = c .before .before .before in entry (copied (lent .before))
+
+abbrev answered : tie.After-translated2 → tie.After-translate
+answered c = c .before .before
 
 cast-translate : tie.Need-cast-translate
 cast-translate c = search needs
@@ -17,58 +39,34 @@ cast-translate-2 : tie.Need-cast-translate-2
 cast-translate-2 c = search needs
 
 mul-matrix : tie.Need-mul-matrix
-mul-matrix c =
-    let x = c .before .before .before .before .args .x in
-    let z = c .before .before .before .before .pre in
-    omega (arith, matrix-fits x z, z .room-matrix)
+mul-matrix c = let z = entry c .pre in omega (arith, matrix-fits z, z .room-matrix)
 
 array-share-prefix-matrix : tie.Need-array-share-prefix-matrix
-array-share-prefix-matrix c =
-    let x = c .before .before .before .before .args .x in
-    let z = c .before .before .before .before .pre in
-    matrix-fits x z
+array-share-prefix-matrix c = matrix-fits (entry c .pre)
 
 slice-aggregate-translate : tie.Need-slice-aggregate-translate
-slice-aggregate-translate c =
-    let x = c .before .before .before .before .before .args .x in
-    let z = c .before .before .before .before .before .pre in
-    sym (matrix-length x z)
+slice-aggregate-translate c = sym (matrix-length (entry (c .before) .pre))
 
 array-share-prefix-moduli : tie.Need-array-share-prefix-moduli
 array-share-prefix-moduli c = search needs
 
 slice-aggregate-translate-2 : tie.Need-slice-aggregate-translate-2
-slice-aggregate-translate-2 c =
-    let x = c .before .before .before .before .before .before .args .x in
-    let z = c .before .before .before .before .before .before .pre in
-    sym (moduli-length x z)
+slice-aggregate-translate-2 c = sym (moduli-length (entry (c .before .before) .pre))
 
 array-share-prefix-coefficients : tie.Need-array-share-prefix-coefficients
 array-share-prefix-coefficients c = search needs
 
 slice-aggregate-translate-3 : tie.Need-slice-aggregate-translate-3
-slice-aggregate-translate-3 c =
-    let x = c .before .before .before .before .before .before .before .args .x in
-    let z = c .before .before .before .before .before .before .before .pre in
-    sym (coefficients-length x z)
+slice-aggregate-translate-3 c = sym (coefficients-length (entry (copied c) .pre))
 
 mul-exponents : tie.Need-mul-exponents
-mul-exponents c =
-    let x = c .before .before .before .before .before .before .before .args .x in
-    let z = c .before .before .before .before .before .before .before .pre in
-    omega (arith, exponents-fit x z, z .room-exponents)
+mul-exponents c = let z = entry (copied c) .pre in omega (arith, exponents-fit z, z .room-exponents)
 
 array-share-prefix-exponents : tie.Need-array-share-prefix-exponents
-array-share-prefix-exponents c =
-    let x = c .before .before .before .before .before .before .before .args .x in
-    let z = c .before .before .before .before .before .before .before .pre in
-    exponents-fit x z
+array-share-prefix-exponents c = exponents-fit (entry (copied c) .pre)
 
 slice-aggregate-translate-4 : tie.Need-slice-aggregate-translate-4
-slice-aggregate-translate-4 c =
-    let x = c .before .before .before .before .before .before .before .before .args .x in
-    let z = c .before .before .before .before .before .before .before .before .pre in
-    sym (exponents-length x z)
+slice-aggregate-translate-4 c = sym (exponents-length (entry (copied (c .before)) .pre))
 
 slice-aggregate-translate-5 : tie.Need-slice-aggregate-translate-5
 slice-aggregate-translate-5 c = search needs
@@ -84,9 +82,8 @@ refused-requires c κs = search needs
 
 returns : tie.Need-returns
 returns c =
-    let x = c .before .before .before .before .before .before .before .before .before .before .before .before .before .before .before .args .x in
-    let z = c .before .before .before .before .before .before .before .before .before .before .before .before .before .before .before .pre in
-    rw (refused-text x z (replicate 64 (pos 0)) (replicate 1024 (pos 0)) (length-replicate 64 (pos 0)) (length-replicate 1024 (pos 0)) (c .before .before .before .before .translate .ensures) (c .before .if1 .taken)) at (c .refused .ensures)
+    let t = answered (c .before .before) in
+    rw (refused-text (start t .pre) (fresh 64) (fresh 1024) (room 64) (room 1024) (t .translate .ensures) (c .before .if1 .taken)) at (c .refused .ensures)
 
 slice-aggregate-solved : tie.Need-slice-aggregate-solved
 slice-aggregate-solved c = search needs
@@ -96,16 +93,16 @@ slice-aggregate-solved-2 c = search needs
 
 solved-requires : tie.Need-solved-requires
 solved-requires c κs =
-    let x = c .before .before .before .before .before .before .before .before .before .before .before .before .before .before .before .before .args .x in
-    let z = c .before .before .before .before .before .before .before .before .before .before .before .before .before .before .before .before .pre in
-    let l = c .before .before .before .before .before .translate .kept .1 .1 .1 .1 .1 .1 .1 .0 ∙ (length-replicate 1024 (pos 0)) in
-    (z, is-translated x z (replicate 64 (pos 0)) (replicate 1024 (pos 0)) (length-replicate 64 (pos 0)) (length-replicate 1024 (pos 0)) (c .before .before .before .before .before .translate .ensures) (c .before .before .if1 .left) l)
+    let t = answered (c .before .before .before) in
+    let z = start t .pre in
+    let l = t .translate .kept .1 .1 .1 .1 .1 .1 .1 .0 ∙ room 1024 in
+    (z, is-translated z (fresh 64) (fresh 1024) (room 64) (room 1024) (t .translate .ensures) (c .before .before .if1 .left) l)
 
 returns-2 : tie.Need-returns-2
 returns-2 c =
-    let x = c .before .before .before .before .before .before .before .before .before .before .before .before .before .before .before .before .before .args .x in
-    let z = c .before .before .before .before .before .before .before .before .before .before .before .before .before .before .before .before .before .pre in
-    rw (verdict-is x z (replicate 64 (pos 0)) (replicate 1024 (pos 0)) (length-replicate 64 (pos 0)) (length-replicate 1024 (pos 0)) (c .before .before .before .before .before .before .translate .ensures) (c .before .before .before .if1 .left)) (c .solved .ensures)
+    let taken = c .before .before .before in
+    let t = answered (taken .before) in
+    rw (verdict-is (start t .pre) (fresh 64) (fresh 1024) (room 64) (room 1024) (t .translate .ensures) (taken .if1 .left)) (c .solved .ensures)
 
 pub solve-spec : {M : Type 1} → statement M
 solve-spec =

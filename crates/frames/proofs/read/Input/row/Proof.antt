@@ -47,8 +47,9 @@ fill-matrix-requires c κs =
 returns : tie.Need-returns
 unfolding withRow
 returns c =
-    let a = c .before .before .before .before .args in
-    let z = held _ (c .before .before .short .ok) ∙ c .before .before .short .ensures in
+    let stored = c .before .before in
+    let a = stored .before .before .args in
+    let z = held _ (stored .short .ok) ∙ stored .short .ensures in
     rw (z, c .fill-matrix .ensures, drop-drop 2 (a .at) (a .text .now), drop-drop 6 (a .at) (a .text .now))
 
 pub row-spec : {M : Type 1} → statement M

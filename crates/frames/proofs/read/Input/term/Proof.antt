@@ -51,8 +51,9 @@ add-self c = search needs
 returns : tie.Need-returns
 unfolding withTerm
 returns c =
-    let a = c .before .before .before .before .args in
-    let z = held _ (c .before .before .long .ok) ∙ c .before .before .long .ensures in
+    let stored = c .before .before in
+    let a = stored .before .before .args in
+    let z = held _ (stored .long .ok) ∙ stored .long .ensures in
     rw (z, c .fill-exponents .ensures, drop-drop 2 (a .at) (a .text .now), drop-drop 10 (a .at) (a .text .now), add-one)
 
 pub term-spec : {M : Type 1} → statement M
