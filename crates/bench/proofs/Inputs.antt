@@ -33,9 +33,9 @@ decoded-within D = omega (arith, D .same, D .upto)
 pub decoded-length : {s : List ℕ} {out₀ out₁ : List ℤ} {r : ℕ} → Decoded s out₀ out₁ r → r ≡ length (take r out₁)
 decoded-length {s} {out₀} {out₁} {r} D = sym (length-take-le r out₁ (decoded-within D))
 
-pub decoded-reads : (s : List ℕ) (most : ℕ) (out₀ out₁ : List ℤ) (r : ℕ) → length out₀ ≡ suc most → Decoded s out₀ out₁ r
+pub decoded-reads : {s : List ℕ} {most : ℕ} {out₀ out₁ : List ℤ} {r : ℕ} → Decoded s out₀ out₁ r → length out₀ ≡ suc most
     → Reads s most (take r out₁)
-decoded-reads s most out₀ out₁ r e D =
+decoded-reads {s} {most} {out₀} {out₁} {r} D e =
     let n : readable s (length out₀) ≡ true → take r out₁ ≡ numbersOf s = D .numbers in
     let w : readable s (length out₀) ≡ false → r ≡ length out₀ = D .wrong in
     record { right = rw e at n; wrong = λ f. sym (decoded-length D) ∙ (rw e at w) f }

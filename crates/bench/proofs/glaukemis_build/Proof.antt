@@ -12,119 +12,121 @@ use Rattle.bench.proofs.BuildCall.{Called, Taken, refusal, success}
 use borrow.Author.Needs.{needs}
 use Rattle.bench.proofs.glaukemis_build.Statement.{statement}
 use Rattle.bench.proofs.glaukemis_build.Tie as tie
-use Rattle.bench.proofs.glaukemis_build.Reads as reads
-use Rattle.bench.proofs.glaukemis_build.Lts as lts
-use Rattle.scaling.proofs.build.Reads as build-reads
-use Rattle.bench.proofs.words.decode.Reads as decode-reads
-use Rattle.bench.proofs.words.encode.Reads as encode-reads
-use Rattle.bench.proofs.words.room.Reads as room-reads
 
-abbrev claims : lts.Claims
-claims = (
-  decode-reads.Asked,
-  decode-reads.Learnt,
-  room-reads.Asked,
-  room-reads.Learnt,
-  build-reads.Asked,
-  build-reads.Learnt,
-  encode-reads.Asked,
-  encode-reads.Learnt,
-)
+-- the points of the walk: both inputs read and the room of each output known
+module _ (c : tie.After-room3) where
+  abbrev at-room2 : tie.After-room2
+  at-room2 = c .before .before
 
--- the place where scaling::build has answered and the arrays are whole again, and what is known there
-abbrev Answered : Type 0
-Answered = lts.After-z2 claims reads.Pre reads.Post
-
-module _ (c : Answered) where
-  abbrev at-room3 : lts.After-room3 claims reads.Pre reads.Post
-  at-room3 = c .before .before .before .before .before .before .before .before .before
-
-  abbrev at-room2 : lts.After-room2 claims reads.Pre reads.Post
-  at-room2 = at-room3 .before .before
-
-  abbrev at-room : lts.After-room claims reads.Pre reads.Post
+  abbrev at-room : tie.After-room
   at-room = at-room2 .before .before
 
-  abbrev at-decode2 : lts.After-decode2 claims reads.Pre reads.Post
+  abbrev at-decode2 : tie.After-decode2
   at-decode2 = at-room .before .before .before
 
-  abbrev at-decode : lts.After-decode claims reads.Pre reads.Post
+  abbrev at-decode : tie.After-decode
   at-decode = at-decode2 .before .before .before
 
-  abbrev entry : lts.Start claims reads.Pre reads.Post
-  entry = at-decode .before .before .before .before .before .before .before
+  abbrev entry : tie.Start
+  entry = let outputs = at-decode .before .before in let inputs = outputs .before .before .before in inputs .before .before
+
+-- the first array lent
+abbrev lent : tie.After-x → tie.After-room3
+lent c = c .before .before .before
+
+-- taken; H written, V written, W written
+abbrev taken : tie.After-x3 → tie.Else1
+taken c = c .before .before .before
+
+abbrev written-h : tie.After-y3 → tie.After-encode
+written-h c = let read = c .before in read .before .before .before
+
+abbrev written-v : tie.After-z3 → tie.After-encode2
+written-v c = let read = c .before in read .before .before .before
+
+abbrev written-w : tie.After-slice-known6 → tie.After-encode3
+written-w c = c .before .before
+
+abbrev taken-h : tie.After-y3 → tie.Else1
+taken-h c = taken (written-h c .before)
+
+abbrev taken-v : tie.After-z3 → tie.Else1
+taken-v c = taken-h (written-v c .before)
+
+-- scaling::build has answered and the arrays are whole again
+module _ (c : tie.After-z2) where
+  abbrev at-build : tie.After-build
+  at-build = c .before .before .before
+
+  abbrev rooms : tie.After-room3
+  rooms = lent (at-build .before .before .before)
+
+  abbrev start : tie.Start
+  start = entry rooms
 
   abbrev matrix-numbers : List ℤ
-  matrix-numbers = take (at-decode .decode .result) (at-decode .decode .last .1 .0)
+  matrix-numbers = take (at-decode rooms .decode .result) (at-decode rooms .decode .last .1 .0)
 
   abbrev moduli-numbers : List ℤ
-  moduli-numbers = take (at-decode2 .decode2 .result) (at-decode2 .decode2 .last .1 .0)
+  moduli-numbers = take (at-decode2 rooms .decode2 .result) (at-decode2 rooms .decode2 .last .1 .0)
 
   abbrev h-lent : List ℤ
-  h-lent = take (at-room .room .result) (replicate 192 (pos 0))
+  h-lent = take (at-room rooms .room .result) (replicate 192 (pos 0))
 
   abbrev h-after : List ℤ
-  h-after = c .before .before .before .build .last .1 .1 .1 .1 .0
+  h-after = at-build .build .last .1 .1 .1 .1 .0
 
   abbrev h-behind : List ℤ
-  h-behind = drop (at-room .room .result) (replicate 192 (pos 0))
+  h-behind = drop (at-room rooms .room .result) (replicate 192 (pos 0))
 
   abbrev v-lent : List ℤ
-  v-lent = take (at-room2 .room2 .result) (replicate 576 (pos 0))
+  v-lent = take (at-room2 rooms .room2 .result) (replicate 576 (pos 0))
 
   abbrev v-after : List ℤ
-  v-after = c .before .before .before .build .last .1 .1 .1 .1 .1 .0
+  v-after = at-build .build .last .1 .1 .1 .1 .1 .0
 
   abbrev v-behind : List ℤ
-  v-behind = drop (at-room2 .room2 .result) (replicate 576 (pos 0))
+  v-behind = drop (at-room2 rooms .room2 .result) (replicate 576 (pos 0))
 
   abbrev w-lent : List ℤ
-  w-lent = take (at-room3 .room3 .result) (replicate 576 (pos 0))
+  w-lent = take (rooms .room3 .result) (replicate 576 (pos 0))
 
   abbrev w-after : List ℤ
-  w-after = c .before .before .before .build .last .1 .1 .1 .1 .1 .1 .0
+  w-after = at-build .build .last .1 .1 .1 .1 .1 .1 .0
 
   abbrev w-behind : List ℤ
-  w-behind = drop (at-room3 .room3 .result) (replicate 576 (pos 0))
+  w-behind = drop (rooms .room3 .result) (replicate 576 (pos 0))
 
   abbrev answer : BuildAnswer
-  answer = c .before .before .before .build .result
+  answer = at-build .build .result
 
-  called : Called (entry .args .m) (entry .args .n) (entry .args .matrix .now) (entry .args .moduli .now)
-      (entry .args .h .now) (entry .args .v .now) (entry .args .w .now)
+  called : Called (start .args .m) (start .args .n) (start .args .matrix .now) (start .args .moduli .now)
+      (start .args .h .now) (start .args .v .now) (start .args .w .now)
       matrix-numbers moduli-numbers h-lent v-lent w-lent answer h-after v-after w-after
   called = record {
-    reads-matrix = decoded-reads (entry .args .matrix .now) 128 (replicate 129 (pos 0)) (at-decode .decode .last .1 .0) (at-decode .decode .result) refl
-        (at-decode .decode .ensures);
-    reads-moduli = decoded-reads (entry .args .moduli .now) 8 (replicate 9 (pos 0)) (at-decode2 .decode2 .last .1 .0) (at-decode2 .decode2 .result) refl
-        (at-decode2 .decode2 .ensures);
-    lent-h = prefix-lent (entry .args .h .now) 192 (at-room .room .result) (replicate 192 (pos 0)) (omega arith)
-        (at-room .room .ensures) refl;
-    lent-v = prefix-lent (entry .args .v .now) 576 (at-room2 .room2 .result) (replicate 576 (pos 0)) (omega arith)
-        (at-room2 .room2 .ensures) refl;
-    lent-w = prefix-lent (entry .args .w .now) 576 (at-room3 .room3 .result) (replicate 576 (pos 0)) (omega arith)
-        (at-room3 .room3 .ensures) refl;
-    builds = c .before .before .before .build .ensures;
+    reads-matrix = decoded-reads (at-decode rooms .decode .ensures) refl;
+    reads-moduli = decoded-reads (at-decode2 rooms .decode2 .ensures) refl;
+    lent-h = prefix-lent _ 192 _ (replicate 192 (pos 0)) (omega arith) (at-room rooms .room .ensures) refl;
+    lent-v = prefix-lent _ 576 _ (replicate 576 (pos 0)) (omega arith) (at-room2 rooms .room2 .ensures) refl;
+    lent-w = prefix-lent _ 576 _ (replicate 576 (pos 0)) (omega arith) (rooms .room3 .ensures) refl;
+    builds = at-build .build .ensures;
   }
 
   h-whole : 192 ≡ length (h-after ++ h-behind)
-  h-whole = whole-length 192 (at-room .room .result) (replicate 192 (pos 0)) h-after refl
-      (c .before .before .before .build .kept .1 .1 .1 .1 .0)
+  h-whole = whole-length 192 (at-room rooms .room .result) (replicate 192 (pos 0)) h-after refl (at-build .build .kept .1 .1 .1 .1 .0)
 
   v-whole : 576 ≡ length (v-after ++ v-behind)
-  v-whole = whole-length 576 (at-room2 .room2 .result) (replicate 576 (pos 0)) v-after refl
-      (c .before .before .before .build .kept .1 .1 .1 .1 .1 .0)
+  v-whole = whole-length 576 (at-room2 rooms .room2 .result) (replicate 576 (pos 0)) v-after refl (at-build .build .kept .1 .1 .1 .1 .1 .0)
 
   w-whole : 576 ≡ length (w-after ++ w-behind)
-  w-whole = whole-length 576 (at-room3 .room3 .result) (replicate 576 (pos 0)) w-after refl
-      (c .before .before .before .build .kept .1 .1 .1 .1 .1 .1 .0)
+  w-whole = whole-length 576 (rooms .room3 .result) (replicate 576 (pos 0)) w-after refl (at-build .build .kept .1 .1 .1 .1 .1 .1 .0)
 
   abbrev Done : Type 0
-  Done = Taken (entry .args .m) (entry .args .n) (entry .args .matrix .now) (entry .args .moduli .now)
-      (entry .args .h .now) (entry .args .v .now) (entry .args .w .now)
+  Done = Taken (start .args .m) (start .args .n) (start .args .matrix .now) (start .args .moduli .now)
+      (start .args .h .now) (start .args .v .now) (start .args .w .now)
       answer h-after v-after w-after
 
-done : (c : lts.Else1 claims reads.Pre reads.Post) → Done (c .before)
+done : (c : tie.Else1) → Done (c .before)
 done c = success (called (c .before)) (c .if1 .left)
 
 slice-aggregate-decode : tie.Need-slice-aggregate-decode
@@ -149,46 +151,46 @@ room-requires-3 : tie.Need-room-requires-3
 room-requires-3 c κs = tt
 
 array-share-prefix-a : tie.Need-array-share-prefix-a
-array-share-prefix-a c = decoded-within (c .before .before .before .before .before .before .before .before .before .before .decode .ensures)
+array-share-prefix-a c = decoded-within (at-decode c .decode .ensures)
 
 slice-aggregate-build : tie.Need-slice-aggregate-build
-slice-aggregate-build c = decoded-length (c .before .before .before .before .before .before .before .before .before .before .before .decode .ensures)
+slice-aggregate-build c = decoded-length (at-decode (c .before) .decode .ensures)
 
 array-share-prefix-p : tie.Need-array-share-prefix-p
-array-share-prefix-p c = decoded-within (c .before .before .before .before .before .before .before .before .decode2 .ensures)
+array-share-prefix-p c = decoded-within (at-decode2 (c .before) .decode2 .ensures)
 
 slice-aggregate-build-2 : tie.Need-slice-aggregate-build-2
-slice-aggregate-build-2 c = decoded-length (c .before .before .before .before .before .before .before .before .before .decode2 .ensures)
+slice-aggregate-build-2 c = decoded-length (at-decode2 (c .before .before) .decode2 .ensures)
 
 array-borrow-prefix-x : tie.Need-array-borrow-prefix-x
 array-borrow-prefix-x c =
-    let a = c .before .before .before .before .before .before .before .before .before .before .before .before .before .before .before .before .before .before .before .args in
-    omega (arith, c .before .before .before .before .before .before .room .ensures, room-le (a .h .now) 192)
+    let r = c .before .before in
+    omega (arith, at-room r .room .ensures, room-le (entry r .args .h .now) 192)
 
 slice-aggregate-build-3 : tie.Need-slice-aggregate-build-3
 slice-aggregate-build-3 c =
-    let a = c .before .before .before .before .before .before .before .before .before .before .before .before .before .before .before .before .before .before .before .before .args in
-    prefix-length (a .h .now) 192 _ (replicate 192 (pos 0)) (c .before .before .before .before .before .before .before .room .ensures) refl
+    let r = lent c in
+    prefix-length (entry r .args .h .now) 192 _ (replicate 192 (pos 0)) (at-room r .room .ensures) refl
 
 array-borrow-prefix-y : tie.Need-array-borrow-prefix-y
 array-borrow-prefix-y c =
-    let a = c .before .before .before .before .before .before .before .before .before .before .before .before .before .before .before .before .before .before .before .before .args in
-    omega (arith, c .before .before .before .before .before .room2 .ensures, room-le (a .v .now) 576)
+    let r = lent c in
+    omega (arith, at-room2 r .room2 .ensures, room-le (entry r .args .v .now) 576)
 
 slice-aggregate-build-4 : tie.Need-slice-aggregate-build-4
 slice-aggregate-build-4 c =
-    let a = c .before .before .before .before .before .before .before .before .before .before .before .before .before .before .before .before .before .before .before .before .before .args in
-    prefix-length (a .v .now) 576 _ (replicate 576 (pos 0)) (c .before .before .before .before .before .before .room2 .ensures) refl
+    let r = lent (c .before) in
+    prefix-length (entry r .args .v .now) 576 _ (replicate 576 (pos 0)) (at-room2 r .room2 .ensures) refl
 
 array-borrow-prefix-z : tie.Need-array-borrow-prefix-z
 array-borrow-prefix-z c =
-    let a = c .before .before .before .before .before .before .before .before .before .before .before .before .before .before .before .before .before .before .before .before .before .args in
-    omega (arith, c .before .before .before .before .room3 .ensures, room-le (a .w .now) 576)
+    let r = lent (c .before) in
+    omega (arith, r .room3 .ensures, room-le (entry r .args .w .now) 576)
 
 slice-aggregate-build-5 : tie.Need-slice-aggregate-build-5
 slice-aggregate-build-5 c =
-    let a = c .before .before .before .before .before .before .before .before .before .before .before .before .before .before .before .before .before .before .before .before .before .before .args in
-    prefix-length (a .w .now) 576 _ (replicate 576 (pos 0)) (c .before .before .before .before .before .room3 .ensures) refl
+    let r = lent (c .before .before) in
+    prefix-length (entry r .args .w .now) 576 _ (replicate 576 (pos 0)) (r .room3 .ensures) refl
 
 build-requires : tie.Need-build-requires
 build-requires c κs = tt
@@ -212,55 +214,54 @@ add-cols : tie.Need-add-cols
 add-cols c = omega (arith, done (c .before) .columns)
 
 slice-aggregate-encode : tie.Need-slice-aggregate-encode
-slice-aggregate-encode c = h-whole (c .before .before .before .before)
+slice-aggregate-encode c = h-whole (taken c .before)
 
 mul-encode : tie.Need-mul-encode
-mul-encode c = omega (arith, done (c .before .before .before) .written-h .fits)
+mul-encode c = omega (arith, done (taken c) .written-h .fits)
 
 encode-requires : tie.Need-encode-requires
 encode-requires c κs =
-    let e = c .before .before .before in
-    let T = done e .written-h in
-    (omega (arith, h-whole (e .before), T .fits), T .room)
+    let T = done (taken c) .written-h in
+    (omega (arith, h-whole (taken c .before), T .fits), T .room)
 
 slice-aggregate-encode-2 : tie.Need-slice-aggregate-encode-2
-slice-aggregate-encode-2 c = v-whole (c .before .before .before .before .before .before .before .before .before)
+slice-aggregate-encode-2 c = v-whole (taken-h c .before)
 
 mul-encode-2 : tie.Need-mul-encode-2
-mul-encode-2 c = omega (arith, done (c .before .before .before .before .before .before .before .before) .written-v .fits)
+mul-encode-2 c = omega (arith, done (taken-h c) .written-v .fits)
 
 encode-requires-2 : tie.Need-encode-requires-2
 encode-requires-2 c κs =
-    let e = c .before .before .before .before .before .before .before .before in
-    let T = done e .written-v in
-    (omega (arith, v-whole (e .before), T .fits), T .room)
+    let T = done (taken-h c) .written-v in
+    (omega (arith, v-whole (taken-h c .before), T .fits), T .room)
 
 slice-aggregate-encode-3 : tie.Need-slice-aggregate-encode-3
-slice-aggregate-encode-3 c =
-    let e = c .before .before .before .before .before .before .before .before .before .before .before .before .before .before in
-    omega (arith, v-whole e, w-whole e)
+slice-aggregate-encode-3 c = omega (arith, v-whole (taken-v c .before), w-whole (taken-v c .before))
 
 mul-encode-3 : tie.Need-mul-encode-3
-mul-encode-3 c = omega (arith, done (c .before .before .before .before .before .before .before .before .before .before .before .before .before) .written-w .fits)
+mul-encode-3 c = omega (arith, done (taken-v c) .written-w .fits)
 
 encode-requires-3 : tie.Need-encode-requires-3
 encode-requires-3 c κs =
-    let e = c .before .before .before .before .before .before .before .before .before .before .before .before .before in
-    let T = done e .written-w in
-    (omega (arith, v-whole (e .before), w-whole (e .before), T .fits), T .room)
+    let answered = taken-v c .before in
+    let T = done (taken-v c) .written-w in
+    (omega (arith, v-whole answered, w-whole answered, T .fits), T .room)
 
 same-length-4 : tie.Need-same-length-4
-same-length-4 c = c .before .before .before .before .before .before .before .before .before .before .before .before .encode .kept .0
+same-length-4 c = let v = written-v (written-w c .before) in written-h (v .before) .encode .kept .0
 
 same-length-5 : tie.Need-same-length-5
-same-length-5 c = c .before .before .before .before .before .before .before .encode2 .kept .0
+same-length-5 c = written-v (written-w c .before) .encode2 .kept .0
 
 same-length-6 : tie.Need-same-length-6
-same-length-6 c = c .before .before .encode3 .kept .0
+same-length-6 c = written-w c .encode3 .kept .0
 
 returns-2 : tie.Need-returns-2
 returns-2 c =
-    let e = c .before .before .before .before .before .before .before .before .before .before .before .before .before .before .before .before in
+    let w = written-w c in
+    let v = written-v (w .before) in
+    let h = written-h (v .before) in
+    let e = taken (h .before) in
     let T = done e in
     let B = T .builds in
     record {
@@ -269,9 +270,9 @@ returns-2 c =
       rank = B .rank;
       moduli = B .moduli;
       steps = B .steps;
-      h = written-is (T .written-h) (h-behind (e .before)) (c .before .before .before .before .before .before .before .before .before .before .before .before .encode .ensures) ∙ B .h;
-      v = written-is (T .written-v) (v-behind (e .before)) (c .before .before .before .before .before .before .before .encode2 .ensures) ∙ B .v;
-      w = written-is (T .written-w) (w-behind (e .before)) (c .before .before .encode3 .ensures) ∙ B .w;
+      h = written-is (T .written-h) (h-behind (e .before)) (h .encode .ensures) ∙ B .h;
+      v = written-is (T .written-v) (v-behind (e .before)) (v .encode2 .ensures) ∙ B .v;
+      w = written-is (T .written-w) (w-behind (e .before)) (w .encode3 .ensures) ∙ B .w;
     }
 
 pub glaukemis-build-spec : {M : Type 1} → statement M

@@ -13,121 +13,119 @@ use Rattle.bench.proofs.TranslateCall.{Called, Taken, refusal, success}
 use borrow.Author.Needs.{needs}
 use Rattle.bench.proofs.glaukemis_translate.Statement.{statement}
 use Rattle.bench.proofs.glaukemis_translate.Tie as tie
-use Rattle.bench.proofs.glaukemis_translate.Reads as reads
-use Rattle.bench.proofs.glaukemis_translate.Lts as lts
-use Rattle.formulas.proofs.translate.Reads as translate-reads
-use Rattle.bench.proofs.words.decode.Reads as decode-reads
-use Rattle.bench.proofs.words.encode.Reads as encode-reads
-use Rattle.bench.proofs.words.room.Reads as room-reads
 
-abbrev claims : lts.Claims
-claims = (
-  decode-reads.Asked,
-  decode-reads.Learnt,
-  room-reads.Asked,
-  room-reads.Learnt,
-  translate-reads.Asked,
-  translate-reads.Learnt,
-  encode-reads.Asked,
-  encode-reads.Learnt,
-)
+-- the points of the walk: the inputs read and the room of both outputs known
+module _ (c : tie.After-room2) where
+  abbrev at-room : tie.After-room
+  at-room = c .before .before
 
--- the place where formulas::translate has answered and the arrays are whole again, and what is known there
-abbrev Answered : Type 0
-Answered = lts.After-y2 claims reads.Pre reads.Post
-
-module _ (c : Answered) where
-  abbrev at-room2 : lts.After-room2 claims reads.Pre reads.Post
-  at-room2 = c .before .before .before .before .before .before .before .before .before
-
-  abbrev at-room : lts.After-room claims reads.Pre reads.Post
-  at-room = at-room2 .before .before
-
-  abbrev at-decode4 : lts.After-decode4 claims reads.Pre reads.Post
+  abbrev at-decode4 : tie.After-decode4
   at-decode4 = at-room .before .before .before
 
-  abbrev at-decode3 : lts.After-decode3 claims reads.Pre reads.Post
+  abbrev at-decode3 : tie.After-decode3
   at-decode3 = at-decode4 .before .before .before
 
-  abbrev at-decode2 : lts.After-decode2 claims reads.Pre reads.Post
+  abbrev at-decode2 : tie.After-decode2
   at-decode2 = at-decode3 .before .before .before
 
-  abbrev at-decode : lts.After-decode claims reads.Pre reads.Post
+  abbrev at-decode : tie.After-decode
   at-decode = at-decode2 .before .before .before
 
-  abbrev entry : lts.Start claims reads.Pre reads.Post
-  entry = at-decode .before .before .before .before .before .before .before .before
+  abbrev entry : tie.Start
+  entry = let outputs = at-decode .before .before in let inputs = outputs .before .before .before in inputs .before .before .before
+
+-- all inputs lent
+abbrev lent : tie.After-e3 → tie.After-room2
+lent c = let matrix = c .before .before .before in matrix .before
+
+-- taken; the coefficients written, the exponents written
+abbrev taken : tie.After-x3 → tie.Else1
+taken c = c .before .before
+
+abbrev written-kept : tie.After-y3 → tie.After-encode
+written-kept c = let read = c .before in read .before .before .before
+
+abbrev taken-kept : tie.After-y3 → tie.Else1
+taken-kept c = taken (written-kept c .before)
+
+abbrev written-translated : tie.After-slice-known4 → tie.After-encode2
+written-translated c = c .before .before
+
+-- formulas::translate has answered and the arrays are whole again
+module _ (c : tie.After-y2) where
+  abbrev at-translate : tie.After-translate
+  at-translate = c .before .before
+
+  abbrev rooms : tie.After-room2
+  rooms = lent (at-translate .before .before .before)
+
+  abbrev start : tie.Start
+  start = entry rooms
 
   abbrev matrix-numbers : List ℤ
-  matrix-numbers = take (at-decode .decode .result) (at-decode .decode .last .1 .0)
+  matrix-numbers = take (at-decode rooms .decode .result) (at-decode rooms .decode .last .1 .0)
 
   abbrev moduli-numbers : List ℤ
-  moduli-numbers = take (at-decode2 .decode2 .result) (at-decode2 .decode2 .last .1 .0)
+  moduli-numbers = take (at-decode2 rooms .decode2 .result) (at-decode2 rooms .decode2 .last .1 .0)
 
   abbrev coefficients-numbers : List ℤ
-  coefficients-numbers = take (at-decode3 .decode3 .result) (at-decode3 .decode3 .last .1 .0)
+  coefficients-numbers = take (at-decode3 rooms .decode3 .result) (at-decode3 rooms .decode3 .last .1 .0)
 
   abbrev exponents-numbers : List ℤ
-  exponents-numbers = take (at-decode4 .decode4 .result) (at-decode4 .decode4 .last .1 .0)
+  exponents-numbers = take (at-decode4 rooms .decode4 .result) (at-decode4 rooms .decode4 .last .1 .0)
 
   abbrev kept-lent : List ℤ
-  kept-lent = take (at-room .room .result) (replicate 64 (pos 0))
+  kept-lent = take (at-room rooms .room .result) (replicate 64 (pos 0))
 
   abbrev kept-after : List ℤ
-  kept-after = c .before .before .translate .last .1 .1 .1 .1 .1 .1 .0
+  kept-after = at-translate .translate .last .1 .1 .1 .1 .1 .1 .0
 
   abbrev kept-behind : List ℤ
-  kept-behind = drop (at-room .room .result) (replicate 64 (pos 0))
+  kept-behind = drop (at-room rooms .room .result) (replicate 64 (pos 0))
 
   abbrev translated-lent : List ℤ
-  translated-lent = take (at-room2 .room2 .result) (replicate 1024 (pos 0))
+  translated-lent = take (rooms .room2 .result) (replicate 1024 (pos 0))
 
   abbrev translated-after : List ℤ
-  translated-after = c .before .before .translate .last .1 .1 .1 .1 .1 .1 .1 .0
+  translated-after = at-translate .translate .last .1 .1 .1 .1 .1 .1 .1 .0
 
   abbrev translated-behind : List ℤ
-  translated-behind = drop (at-room2 .room2 .result) (replicate 1024 (pos 0))
+  translated-behind = drop (rooms .room2 .result) (replicate 1024 (pos 0))
 
   abbrev answer : TranslateAnswer
-  answer = c .before .before .translate .result
+  answer = at-translate .translate .result
 
   abbrev terms : ℕ
-  terms = at-decode3 .decode3 .result
+  terms = at-decode3 rooms .decode3 .result
 
-  called : Called (entry .args .m) (entry .args .n) (entry .args .matrix .now) (entry .args .moduli .now) (entry .args .coefficients .now) (entry .args .exponents .now)
-      (entry .args .kept .now) (entry .args .translated .now)
+  called : Called (start .args .m) (start .args .n) (start .args .matrix .now) (start .args .moduli .now) (start .args .coefficients .now) (start .args .exponents .now)
+      (start .args .kept .now) (start .args .translated .now)
       matrix-numbers moduli-numbers coefficients-numbers exponents-numbers kept-lent translated-lent terms answer kept-after translated-after
   called = record {
-    reads-matrix = decoded-reads (entry .args .matrix .now) 128 (replicate 129 (pos 0)) (at-decode .decode .last .1 .0) (at-decode .decode .result) refl
-        (at-decode .decode .ensures);
-    reads-moduli = decoded-reads (entry .args .moduli .now) 8 (replicate 9 (pos 0)) (at-decode2 .decode2 .last .1 .0) (at-decode2 .decode2 .result) refl
-        (at-decode2 .decode2 .ensures);
-    reads-coefficients = decoded-reads (entry .args .coefficients .now) 64 (replicate 65 (pos 0)) (at-decode3 .decode3 .last .1 .0) (at-decode3 .decode3 .result) refl
-        (at-decode3 .decode3 .ensures);
-    reads-exponents = decoded-reads (entry .args .exponents .now) 1024 (replicate 1025 (pos 0)) (at-decode4 .decode4 .last .1 .0) (at-decode4 .decode4 .result) refl
-        (at-decode4 .decode4 .ensures);
-    counts = decoded-length (at-decode3 .decode3 .ensures);
-    lent-kept = prefix-lent (entry .args .kept .now) 64 (at-room .room .result) (replicate 64 (pos 0)) (omega arith)
-        (at-room .room .ensures) refl;
-    lent-translated = prefix-lent (entry .args .translated .now) 1024 (at-room2 .room2 .result) (replicate 1024 (pos 0)) (omega arith)
-        (at-room2 .room2 .ensures) refl;
-    translates = c .before .before .translate .ensures;
+    reads-matrix = decoded-reads (at-decode rooms .decode .ensures) refl;
+    reads-moduli = decoded-reads (at-decode2 rooms .decode2 .ensures) refl;
+    reads-coefficients = decoded-reads (at-decode3 rooms .decode3 .ensures) refl;
+    reads-exponents = decoded-reads (at-decode4 rooms .decode4 .ensures) refl;
+    counts = decoded-length (at-decode3 rooms .decode3 .ensures);
+    lent-kept = prefix-lent _ 64 _ (replicate 64 (pos 0)) (omega arith) (at-room rooms .room .ensures) refl;
+    lent-translated = prefix-lent _ 1024 _ (replicate 1024 (pos 0)) (omega arith) (rooms .room2 .ensures) refl;
+    translates = at-translate .translate .ensures;
   }
 
   kept-whole : 64 ≡ length (kept-after ++ kept-behind)
-  kept-whole = whole-length 64 (at-room .room .result) (replicate 64 (pos 0)) kept-after refl
-      (c .before .before .translate .kept .1 .1 .1 .1 .1 .1 .0)
+  kept-whole = whole-length 64 (at-room rooms .room .result) (replicate 64 (pos 0)) kept-after refl
+      (at-translate .translate .kept .1 .1 .1 .1 .1 .1 .0)
 
   translated-whole : 1024 ≡ length (translated-after ++ translated-behind)
-  translated-whole = whole-length 1024 (at-room2 .room2 .result) (replicate 1024 (pos 0)) translated-after refl
-      (c .before .before .translate .kept .1 .1 .1 .1 .1 .1 .1 .0)
+  translated-whole = whole-length 1024 (rooms .room2 .result) (replicate 1024 (pos 0)) translated-after refl
+      (at-translate .translate .kept .1 .1 .1 .1 .1 .1 .1 .0)
 
   abbrev Done : Type 0
-  Done = Taken (entry .args .m) (entry .args .n) (entry .args .matrix .now) (entry .args .moduli .now) (entry .args .coefficients .now) (entry .args .exponents .now)
-      (entry .args .kept .now) (entry .args .translated .now)
+  Done = Taken (start .args .m) (start .args .n) (start .args .matrix .now) (start .args .moduli .now) (start .args .coefficients .now) (start .args .exponents .now)
+      (start .args .kept .now) (start .args .translated .now)
       terms answer kept-after translated-after
 
-done : (c : lts.Else1 claims reads.Pre reads.Post) → Done (c .before)
+done : (c : tie.Else1) → Done (c .before)
 done c = success (called (c .before)) (c .if1 .left)
 
 slice-aggregate-decode : tie.Need-slice-aggregate-decode
@@ -161,48 +159,48 @@ room-requires-2 : tie.Need-room-requires-2
 room-requires-2 c κs = tt
 
 array-share-prefix-a : tie.Need-array-share-prefix-a
-array-share-prefix-a c = decoded-within (c .before .before .before .before .before .before .before .before .before .before .before .before .before .before .decode .ensures)
+array-share-prefix-a c = decoded-within (at-decode c .decode .ensures)
 
 slice-aggregate-translate : tie.Need-slice-aggregate-translate
-slice-aggregate-translate c = decoded-length (c .before .before .before .before .before .before .before .before .before .before .before .before .before .before .before .decode .ensures)
+slice-aggregate-translate c = decoded-length (at-decode (c .before) .decode .ensures)
 
 array-share-prefix-p : tie.Need-array-share-prefix-p
-array-share-prefix-p c = decoded-within (c .before .before .before .before .before .before .before .before .before .before .before .before .decode2 .ensures)
+array-share-prefix-p c = decoded-within (at-decode2 (c .before) .decode2 .ensures)
 
 slice-aggregate-translate-2 : tie.Need-slice-aggregate-translate-2
-slice-aggregate-translate-2 c = decoded-length (c .before .before .before .before .before .before .before .before .before .before .before .before .before .decode2 .ensures)
+slice-aggregate-translate-2 c = decoded-length (at-decode2 (c .before .before) .decode2 .ensures)
 
 array-share-prefix-c : tie.Need-array-share-prefix-c
-array-share-prefix-c c = decoded-within (c .before .before .before .before .before .before .before .before .before .before .decode3 .ensures)
+array-share-prefix-c c = decoded-within (at-decode3 (c .before .before) .decode3 .ensures)
 
 slice-aggregate-translate-3 : tie.Need-slice-aggregate-translate-3
-slice-aggregate-translate-3 c = decoded-length (c .before .before .before .before .before .before .before .before .before .before .before .decode3 .ensures)
+slice-aggregate-translate-3 c = decoded-length (at-decode3 (c .before .before .before) .decode3 .ensures)
 
 array-share-prefix-e : tie.Need-array-share-prefix-e
-array-share-prefix-e c = decoded-within (c .before .before .before .before .before .before .before .before .decode4 .ensures)
+array-share-prefix-e c = decoded-within (at-decode4 (c .before .before .before) .decode4 .ensures)
 
 slice-aggregate-translate-4 : tie.Need-slice-aggregate-translate-4
-slice-aggregate-translate-4 c = decoded-length (c .before .before .before .before .before .before .before .before .before .decode4 .ensures)
+slice-aggregate-translate-4 c = decoded-length (at-decode4 (lent c) .decode4 .ensures)
 
 array-borrow-prefix-x : tie.Need-array-borrow-prefix-x
 array-borrow-prefix-x c =
-    let a = c .before .before .before .before .before .before .before .before .before .before .before .before .before .before .before .before .before .before .before .before .before .before .before .before .before .before .args in
-    omega (arith, c .before .before .before .before .before .before .room .ensures, room-le (a .kept .now) 64)
+    let r = lent c in
+    omega (arith, at-room r .room .ensures, room-le (entry r .args .kept .now) 64)
 
 slice-aggregate-translate-5 : tie.Need-slice-aggregate-translate-5
 slice-aggregate-translate-5 c =
-    let a = c .before .before .before .before .before .before .before .before .before .before .before .before .before .before .before .before .before .before .before .before .before .before .before .before .before .before .before .args in
-    prefix-length (a .kept .now) 64 _ (replicate 64 (pos 0)) (c .before .before .before .before .before .before .before .room .ensures) refl
+    let r = lent (c .before) in
+    prefix-length (entry r .args .kept .now) 64 _ (replicate 64 (pos 0)) (at-room r .room .ensures) refl
 
 array-borrow-prefix-y : tie.Need-array-borrow-prefix-y
 array-borrow-prefix-y c =
-    let a = c .before .before .before .before .before .before .before .before .before .before .before .before .before .before .before .before .before .before .before .before .before .before .before .before .before .before .before .args in
-    omega (arith, c .before .before .before .before .before .room2 .ensures, room-le (a .translated .now) 1024)
+    let r = lent (c .before) in
+    omega (arith, r .room2 .ensures, room-le (entry r .args .translated .now) 1024)
 
 slice-aggregate-translate-6 : tie.Need-slice-aggregate-translate-6
 slice-aggregate-translate-6 c =
-    let a = c .before .before .before .before .before .before .before .before .before .before .before .before .before .before .before .before .before .before .before .before .before .before .before .before .before .before .before .before .args in
-    prefix-length (a .translated .now) 1024 _ (replicate 1024 (pos 0)) (c .before .before .before .before .before .before .room2 .ensures) refl
+    let r = lent (c .before .before) in
+    prefix-length (entry r .args .translated .now) 1024 _ (replicate 1024 (pos 0)) (r .room2 .ensures) refl
 
 translate-requires : tie.Need-translate-requires
 translate-requires c κs = tt
@@ -217,46 +215,47 @@ returns : tie.Need-returns
 returns c = refusal (called (c .before)) (c .if1 .taken)
 
 slice-aggregate-encode : tie.Need-slice-aggregate-encode
-slice-aggregate-encode c = kept-whole (c .before .before .before)
+slice-aggregate-encode c = kept-whole (taken c .before)
 
 encode-requires : tie.Need-encode-requires
 encode-requires c κs =
-    let e = c .before .before in
-    let T = done e .written-kept in
-    (omega (arith, kept-whole (e .before), T .fits), T .room)
+    let T = done (taken c) .written-kept in
+    (omega (arith, kept-whole (taken c .before), T .fits), T .room)
 
 slice-aggregate-encode-2 : tie.Need-slice-aggregate-encode-2
-slice-aggregate-encode-2 c = translated-whole (c .before .before .before .before .before .before .before .before)
+slice-aggregate-encode-2 c = translated-whole (taken-kept c .before)
 
 cast-encode : tie.Need-cast-encode
 cast-encode c = search needs
 
 mul-encode : tie.Need-mul-encode
-mul-encode c = omega (arith, done (c .before .before .before .before .before .before .before .before) .written-translated .fits)
+mul-encode c = omega (arith, done (taken-kept (c .before)) .written-translated .fits)
 
 encode-requires-2 : tie.Need-encode-requires-2
 encode-requires-2 c κs =
-    let e = c .before .before .before .before .before .before .before .before in
+    let e = taken-kept (c .before) in
     let T = done e .written-translated in
     (omega (arith, translated-whole (e .before), T .fits), omega (arith, T .room))
 
 same-length-3 : tie.Need-same-length-3
-same-length-3 c = c .before .before .before .before .before .before .before .before .encode .kept .0
+same-length-3 c = written-kept (written-translated c .before .before) .encode .kept .0
 
 same-length-4 : tie.Need-same-length-4
-same-length-4 c = c .before .before .encode2 .kept .0
+same-length-4 c = written-translated c .encode2 .kept .0
 
 returns-2 : tie.Need-returns-2
 returns-2 c =
-    let e = c .before .before .before .before .before .before .before .before .before .before .before in
+    let x = written-translated c in
+    let k = written-kept (x .before .before) in
+    let e = taken (k .before) in
     let T = done e in
     let B = T .translates in
     record {
       number = B .number;
       place = B .place;
       d = B .d;
-      kept = written-is (T .written-kept) (kept-behind (e .before)) (c .before .before .before .before .before .before .before .before .encode .ensures) ∙ B .kept;
-      translated = written-is (T .written-translated) (translated-behind (e .before)) (c .before .before .encode2 .ensures) ∙ B .translated;
+      kept = written-is (T .written-kept) (kept-behind (e .before)) (k .encode .ensures) ∙ B .kept;
+      translated = written-is (T .written-translated) (translated-behind (e .before)) (x .encode2 .ensures) ∙ B .translated;
     }
 
 pub glaukemis-translate-spec : {M : Type 1} → statement M

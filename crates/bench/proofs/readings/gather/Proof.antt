@@ -48,8 +48,9 @@ loop-less c = search needs
 
 loop-again : tie.Need-loop-again Inv-loop μ-loop
 loop-again c =
-    let l = c .before .before .before .loop in
-    let lent = c .before .before .before .before .args .lent .now in
+    let head = c .before .before .before in
+    let l = head .loop in
+    let lent = head .before .args .lent .now in
     let x = getD lent (l .j) nan in (
       search needs,
       search needs,

@@ -27,8 +27,9 @@ same-length c = search needs
 
 returns : tie.Need-returns
 returns c =
-    let s = c .before .before .before .before .before in
-    let call = c .before .before .read in
+    let answered = c .before .before in
+    let s = answered .before .before .before in
+    let call = answered .read in
     let n = length (s .args .buf .now) in
     (rw (toZ-ofZ {w = w64} (record { sfits = call .ok }), ← (mid-len (s .args .len) n (s .args .buf .now) (le-refl n))) (call .ensures), take-put (s .args .len) (n - s .args .len) (s .args .buf .now) (call .last .1 .0) (s .pre))
 

@@ -39,8 +39,14 @@ got-at d = toZ w64 (ofZ w64 (d .ask .result))
 moved : (d : tie.After-ask Inv-loop μ-loop) → Moved (length (bytes-at d) - len-at d) (got-at d)
 moved d = rw (d .ask .kept .1 .0, toZ-ofZ {w = w64} (record { sfits = d .ask .ok })) (d .ask .ensures .0)
 
+abbrev at-ask : tie.After-heard-arg Inv-loop μ-loop → tie.After-ask Inv-loop μ-loop
+at-ask c = c .before .before .before
+
 abbrev asked : tie.After-heard Inv-loop μ-loop → tie.After-ask Inv-loop μ-loop
-asked e = e .before .before .before .before
+asked e = at-ask (e .before)
+
+abbrev at-heard : tie.After-struct-known Inv-loop μ-loop → tie.After-heard Inv-loop μ-loop
+at-heard c = c .before .before .before
 
 came : (e : tie.After-heard Inv-loop μ-loop) → e .heard .result .more ≡ true → Came (len-at (asked e)) (bytes-at (asked e)) (e .heard .result) (e .heard .last .1 .0)
 came e t = goes-on (got-at (asked e)) (len-at (asked e)) (bytes-at (asked e)) (e .heard .ensures) (moved (asked e)) t
@@ -52,25 +58,25 @@ ask-requires : tie.Need-ask-requires Inv-loop μ-loop
 ask-requires c κs = search needs
 
 heard-requires : tie.Need-heard-requires Inv-loop μ-loop
-heard-requires c κs = let d = c .before .before .before in (inside d, moved d)
+heard-requires c κs = let d = at-ask c in (inside d, moved d)
 
 same-length : tie.Need-same-length Inv-loop μ-loop
 same-length c = search needs
 
 returns : tie.Need-returns Inv-loop μ-loop
 returns c =
-    let e = c .before .before .before .before in
+    let e = at-heard (c .before) in
     stops (got-at (asked e)) (len-at (asked e)) (bytes-at (asked e)) (e .heard .ensures) (inside (asked e)) (not-true _ (c .if1 .taken))
 
 loop-less : tie.Need-loop-less Inv-loop μ-loop
 loop-less c =
-    let e = c .before .before .before .before in
+    let e = at-heard (c .before) in
     let x = came e (not-false _ (c .if1 .left)) in
     omega (arith, asked e .ask .kept .1 .0, ap length (x .same), x .rises, x .inside)
 
 loop-again : tie.Need-loop-again Inv-loop μ-loop
 loop-again c =
-    let e = c .before .before .before .before in
+    let e = at-heard (c .before) in
     let x = came e (not-false _ (c .if1 .left)) in
     let l = ap length (x .same) in
     (omega (arith, l, x .inside), l ∙ asked e .ask .kept .1 .0 ∙ asked e .before .before .before .loop .inv .1)
