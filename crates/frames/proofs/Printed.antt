@@ -9,8 +9,6 @@ use native.Mathlib.Omega.{arith}
 use lib.ListN.{length, getD, take, drop, set, length-append, length-drop}
 use lib.Seq.{length-take-le, take-suc, take-append-le, drop-append-le, getD-drop, drop-drop}
 use lib.IntN.{ℤ, pos}
-use mir.Syntax.{w32}
-use mir.Val.{ofZ}
 use Rattle.whole.proofs.Order.{row-within}
 use Rattle.rules.specs.Calls.{filled}
 use Rattle.rules.specs.Bytes.{byte, bytesOf}

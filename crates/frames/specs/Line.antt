@@ -3,7 +3,7 @@ use mathlib.Core.Bool.{Bool, _&&_}
 use mathlib.Core.List.{List}
 use Prim.Native.Nat.{ℕ, _+_, _*_}
 use lib.Dec.{eqb}
-use lib.ListN.{take, drop}
+use lib.ListN.{take}
 use Rattle.rules.specs.Bytes.{byteAt}
 use Rattle.rules.specs.Frames.{newline, digit, allDigits}
 
