@@ -35,23 +35,23 @@ abbrev lent : tie.After-x → tie.After-room3
 lent c = c .before .before .before
 
 -- taken; H written, V written, W written
-abbrev taken : tie.After-x3 → tie.Else1
-taken c = c .before .before .before
+abbrev taken : tie.After-encode-arg → tie.Else1
+taken c = c .before .before
 
-abbrev written-h : tie.After-y3 → tie.After-encode
-written-h c = let read = c .before in read .before .before .before
+abbrev written-h : tie.After-encode-arg2 → tie.After-encode
+written-h c = c .before .before .before
 
-abbrev written-v : tie.After-z3 → tie.After-encode2
-written-v c = let read = c .before in read .before .before .before
+abbrev taken-h : tie.After-encode-arg2 → tie.Else1
+taken-h c = taken (written-h c .before .before)
+
+abbrev written-v : tie.After-encode-arg3 → tie.After-encode2
+written-v c = c .before .before .before
+
+abbrev taken-v : tie.After-encode-arg3 → tie.Else1
+taken-v c = taken-h (written-v c .before .before)
 
 abbrev written-w : tie.After-slice-known6 → tie.After-encode3
 written-w c = c .before .before
-
-abbrev taken-h : tie.After-y3 → tie.Else1
-taken-h c = taken (written-h c .before)
-
-abbrev taken-v : tie.After-z3 → tie.Else1
-taken-v c = taken-h (written-v c .before)
 
 -- scaling::build has answered and the arrays are whole again
 module _ (c : tie.After-z2) where
@@ -214,44 +214,48 @@ add-cols : tie.Need-add-cols
 add-cols c = omega (arith, done (c .before) .columns)
 
 slice-aggregate-encode : tie.Need-slice-aggregate-encode
-slice-aggregate-encode c = h-whole (taken c .before)
+slice-aggregate-encode c = h-whole (taken (c .before) .before)
 
 mul-encode : tie.Need-mul-encode
-mul-encode c = omega (arith, done (taken c) .written-h .fits)
+mul-encode c = omega (arith, done (taken (c .before)) .written-h .fits)
 
 encode-requires : tie.Need-encode-requires
 encode-requires c κs =
-    let T = done (taken c) .written-h in
-    (omega (arith, h-whole (taken c .before), T .fits), T .room)
+    let e = taken (c .before) in
+    let T = done e .written-h in
+    (omega (arith, h-whole (e .before), T .fits), T .room)
 
 slice-aggregate-encode-2 : tie.Need-slice-aggregate-encode-2
-slice-aggregate-encode-2 c = v-whole (taken-h c .before)
+slice-aggregate-encode-2 c = v-whole (taken-h (c .before) .before)
 
 mul-encode-2 : tie.Need-mul-encode-2
-mul-encode-2 c = omega (arith, done (taken-h c) .written-v .fits)
+mul-encode-2 c = omega (arith, done (taken-h (c .before)) .written-v .fits)
 
 encode-requires-2 : tie.Need-encode-requires-2
 encode-requires-2 c κs =
-    let T = done (taken-h c) .written-v in
-    (omega (arith, v-whole (taken-h c .before), T .fits), T .room)
+    let e = taken-h (c .before) in
+    let T = done e .written-v in
+    (omega (arith, v-whole (e .before), T .fits), T .room)
 
 slice-aggregate-encode-3 : tie.Need-slice-aggregate-encode-3
-slice-aggregate-encode-3 c = omega (arith, v-whole (taken-v c .before), w-whole (taken-v c .before))
+slice-aggregate-encode-3 c =
+    let e = taken-v (c .before) in
+    omega (arith, v-whole (e .before), w-whole (e .before))
 
 mul-encode-3 : tie.Need-mul-encode-3
-mul-encode-3 c = omega (arith, done (taken-v c) .written-w .fits)
+mul-encode-3 c = omega (arith, done (taken-v (c .before)) .written-w .fits)
 
 encode-requires-3 : tie.Need-encode-requires-3
 encode-requires-3 c κs =
-    let answered = taken-v c .before in
-    let T = done (taken-v c) .written-w in
-    (omega (arith, v-whole answered, w-whole answered, T .fits), T .room)
+    let e = taken-v (c .before) in
+    let T = done e .written-w in
+    (omega (arith, v-whole (e .before), w-whole (e .before), T .fits), T .room)
 
 same-length-4 : tie.Need-same-length-4
-same-length-4 c = let v = written-v (written-w c .before) in written-h (v .before) .encode .kept .0
+same-length-4 c = let v = written-v (written-w c .before .before) in written-h (v .before .before) .encode .kept .0
 
 same-length-5 : tie.Need-same-length-5
-same-length-5 c = written-v (written-w c .before) .encode2 .kept .0
+same-length-5 c = written-v (written-w c .before .before) .encode2 .kept .0
 
 same-length-6 : tie.Need-same-length-6
 same-length-6 c = written-w c .encode3 .kept .0
@@ -259,9 +263,9 @@ same-length-6 c = written-w c .encode3 .kept .0
 returns-2 : tie.Need-returns-2
 returns-2 c =
     let w = written-w c in
-    let v = written-v (w .before) in
-    let h = written-h (v .before) in
-    let e = taken (h .before) in
+    let v = written-v (w .before .before) in
+    let h = written-h (v .before .before) in
+    let e = taken (h .before .before) in
     let T = done e in
     let B = T .builds in
     record {

@@ -39,14 +39,14 @@ abbrev lent : tie.After-e3 → tie.After-room2
 lent c = let matrix = c .before .before .before in matrix .before
 
 -- taken; the coefficients written, the exponents written
-abbrev taken : tie.After-x3 → tie.Else1
-taken c = c .before .before
+abbrev taken : tie.After-encode-arg → tie.Else1
+taken c = c .before
 
-abbrev written-kept : tie.After-y3 → tie.After-encode
-written-kept c = let read = c .before in read .before .before .before
+abbrev written-kept : tie.After-encode-arg2 → tie.After-encode
+written-kept c = c .before .before .before
 
-abbrev taken-kept : tie.After-y3 → tie.Else1
-taken-kept c = taken (written-kept c .before)
+abbrev taken-kept : tie.After-encode-arg2 → tie.Else1
+taken-kept c = taken (written-kept c .before .before)
 
 abbrev written-translated : tie.After-slice-known4 → tie.After-encode2
 written-translated c = c .before .before
@@ -215,30 +215,31 @@ returns : tie.Need-returns
 returns c = refusal (called (c .before)) (c .if1 .taken)
 
 slice-aggregate-encode : tie.Need-slice-aggregate-encode
-slice-aggregate-encode c = kept-whole (taken c .before)
+slice-aggregate-encode c = kept-whole (taken (c .before) .before)
 
 encode-requires : tie.Need-encode-requires
 encode-requires c κs =
-    let T = done (taken c) .written-kept in
-    (omega (arith, kept-whole (taken c .before), T .fits), T .room)
+    let e = taken (c .before) in
+    let T = done e .written-kept in
+    (omega (arith, kept-whole (e .before), T .fits), T .room)
 
 slice-aggregate-encode-2 : tie.Need-slice-aggregate-encode-2
-slice-aggregate-encode-2 c = translated-whole (taken-kept c .before)
+slice-aggregate-encode-2 c = translated-whole (taken-kept (c .before) .before)
 
 cast-encode : tie.Need-cast-encode
 cast-encode c = search needs
 
 mul-encode : tie.Need-mul-encode
-mul-encode c = omega (arith, done (taken-kept (c .before)) .written-translated .fits)
+mul-encode c = omega (arith, done (taken-kept (c .before .before)) .written-translated .fits)
 
 encode-requires-2 : tie.Need-encode-requires-2
 encode-requires-2 c κs =
-    let e = taken-kept (c .before) in
+    let e = taken-kept (c .before .before) in
     let T = done e .written-translated in
     (omega (arith, translated-whole (e .before), T .fits), omega (arith, T .room))
 
 same-length-3 : tie.Need-same-length-3
-same-length-3 c = written-kept (written-translated c .before .before) .encode .kept .0
+same-length-3 c = written-kept (written-translated c .before .before .before) .encode .kept .0
 
 same-length-4 : tie.Need-same-length-4
 same-length-4 c = written-translated c .encode2 .kept .0
@@ -246,8 +247,8 @@ same-length-4 c = written-translated c .encode2 .kept .0
 returns-2 : tie.Need-returns-2
 returns-2 c =
     let x = written-translated c in
-    let k = written-kept (x .before .before) in
-    let e = taken (k .before) in
+    let k = written-kept (x .before .before .before) in
+    let e = taken (k .before .before) in
     let T = done e in
     let B = T .translates in
     record {
