@@ -7,6 +7,10 @@ ghost use Rattle.checks.specs.Checks.{given};
 ghost use Rattle.scaling.specs.BuildPromise.{Builds};
 ghost use Rattle.formulas.specs.FormulaPromises.{Weighs, Translates, lentTranslation};
 ghost use Rattle.bench.specs.GaugePromise.{Gauges};
+
+mod readings;
+mod words;
+
 use checks::ROOM_COEFFICIENTS;
 use checks::ROOM_EXPONENTS;
 use checks::ROOM_H;
@@ -16,10 +20,6 @@ use formulas::TranslateAnswer;
 use formulas::WeighAnswer;
 use gauges::Gauged;
 use scaling::BuildAnswer;
-
-mod readings;
-mod words;
-
 use words::decode;
 use words::encode;
 use words::room;
