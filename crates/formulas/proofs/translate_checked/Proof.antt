@@ -54,7 +54,7 @@ returns : tie.Need-returns
 returns c =
     let j = c .before in
     let s = entry (j .before) in
-    refused-there (j .judge-all .ensures) (now (s .args .kept)) (now (s .args .translated)) (λ z. omega (arith, c .if1 .taken))
+    refused-there {P = P s} (j .judge-all .ensures) (now (s .args .kept)) (now (s .args .translated)) (λ z. omega (arith, c .if1 .taken))
 
 translate-all-requires : tie.Need-translate-all-requires
 translate-all-requires c κs =
@@ -83,7 +83,7 @@ returns-2 c =
     let x = taken c in
     let m = rows x in
     let a = entry m .args in
-    all-written (x .before .judge-all .ensures) (x .if1 .left) (now (a .kept)) (now (a .translated)) (groups-are (prepared m)) (w .0) (w .1)
+    all-written {P = P (entry m)} (x .before .judge-all .ensures) (x .if1 .left) (now (a .kept)) (now (a .translated)) (groups-are (prepared m)) (w .0) (w .1)
 
 pub translate-checked-spec : {M : Type 1} → statement M
 translate-checked-spec =

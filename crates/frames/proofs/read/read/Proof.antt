@@ -64,7 +64,7 @@ new-requires c κs = tt
 returns : tie.Need-returns Inv-loop μ-loop Inv-loop2 μ-loop2
 returns c =
     let tested = c .before .before in
-    let g = failed (tested .starts-frame .ensures) (c .before .if1 .taken) in
+    let g = failed {x = startsFrame 1 6 (text tested)} (tested .starts-frame .ensures) (c .before .if1 .taken) in
     refusal-holds 10 0 (c .new .ensures) (λ e. omega arith) (first-off (text tested) g)
 
 byte-requires : tie.Need-byte-requires Inv-loop μ-loop Inv-loop2 μ-loop2
