@@ -9,7 +9,7 @@ if [ ! -f $archive ]; then
 elif [ -n "$(find crates -name '*.rt' -newer $archive -print -quit)" ]; then
     why="$archive is older than the sources"
 else
-    exit
+    exit 0
 fi
 if ! command -v rt >/dev/null; then
     echo "$why, and there is no rt to build it with; on a machine with the Rattle toolchain: rt staticlib bench" >&2
