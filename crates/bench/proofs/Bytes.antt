@@ -1,16 +1,15 @@
--- Numbers in bytes: read one after the other, written one after the other. Assumes nothing.
-use mathlib.Core.Path.{_≡_, refl, sym, ap, ap₂, _∙_}
+-- A number in four bytes of a buffer: read there, written there. Assumes nothing.
+use mathlib.Core.Path.{_≡_, sym, ap, ap₂, _∙_}
 use mathlib.Core.List.{List, [], _∷_, _++_}
-use Prim.Native.Nat.{ℕ, zero, suc, _+_, _*_, _<_}
+use Prim.Native.Nat.{ℕ, suc, _+_, _*_, _<_}
 use native.Mathlib.Nat.{add-zero}
-use native.Mathlib.Numerals.{add-one}
 use native.Mathlib.Omega.{arith}
 use lib.ListN.{length, getD, take, drop, set, length-append}
-use lib.Seq.{sets-eq, take-at, drop-append-add, drop-drop, take-suc, getD-drop, length-take-le}
+use lib.Seq.{sets-eq, take-at, drop-append-add, drop-drop, getD-drop, length-take-le}
 use lib.IntN.{ℤ, pos}
-use Rattle.rules.specs.Bytes.{long, longs, bytesOf}
+use Rattle.rules.specs.Bytes.{long, bytesOf}
 use Rattle.rules.specs.Calls.{filled}
-use Rattle.theory.proofs.Bytes.{length-bytes, bytes-append}
+use Rattle.theory.proofs.Bytes.{length-bytes, bytes-more}
 use Rattle.bench.specs.Words.{Put}
 
 -- ---- reading
@@ -18,19 +17,6 @@ pub four-at : (s : List ℕ) (at : ℕ)
     → long (getD s at 0 ∷ getD s (at + 1) 0 ∷ getD s (at + 2) 0 ∷ getD s (at + 3) 0 ∷ []) ≡ long (drop at s)
 unfolding long
 four-at s at = simp (getD-drop, add-zero)
-
-pub length-longs : (count : ℕ) (s : List ℕ) → length (longs count s) ≡ count
-unfolding longs
-length-longs zero s = refl
-length-longs (suc count) s = ap suc (length-longs count (drop 4 s))
-
-pub longs-suc : (count : ℕ) (s : List ℕ) → longs (suc count) s ≡ longs count s ++ (long (drop (count * 4) s) ∷ [])
-unfolding longs
-longs-suc zero s = refl
-longs-suc (suc count) s =
-    let e : 4 + count * 4 ≡ suc count * 4 = omega arith in
-    ap (λ (t : List ℤ). long s ∷ t) (longs-suc count (drop 4 s)
-    ∙ ap (λ (t : List ℕ). longs count (drop 4 s) ++ (long t ∷ [])) (drop-drop (count * 4) 4 s ∙ ap (λ (k : ℕ). drop k s) e))
 
 -- ---- writing
 four-set : (out : List ℕ) (at a b c d : ℕ) → at + 3 < length out
@@ -46,10 +32,6 @@ pub four-put : (out bytes : List ℕ) (at : ℕ) (z : ℤ) → at + 3 < length o
 unfolding bytesOf
 four-put out bytes at z h e = rw e (record { is = four-set out at _ _ _ _ h })
 
-bytes-suc : (xs : List ℤ) (i : ℕ) → i < length xs
-    → bytesOf (take (suc i) xs) ≡ bytesOf (take i xs) ++ bytesOf (getD xs i (pos 0) ∷ [])
-bytes-suc xs i h = ap bytesOf (take-suc xs i (pos 0) h) ∙ bytes-append (take i xs) (getD xs i (pos 0) ∷ [])
-
 -- a text put right behind what is filled
 filled-more : (a b lent out : List ℕ) (at : ℕ) → length a ≡ at → Put (filled a lent) out at b → out ≡ filled (a ++ b) lent
 filled-more a b lent out at e p =
@@ -63,4 +45,4 @@ pub filled-suc : (xs : List ℤ) (lent out out₁ : List ℕ) (i : ℕ) → i < 
     → Put out out₁ (i * 4) (bytesOf (getD xs i (pos 0) ∷ [])) → out₁ ≡ filled (bytesOf (take (i + 1) xs)) lent
 filled-suc xs lent out out₁ i h e p =
     let l : length (bytesOf (take i xs)) ≡ i * 4 = omega (arith, length-bytes (take i xs), length-take-le i xs (omega arith)) in
-    rw (add-one i, bytes-suc xs i h) (filled-more (bytesOf (take i xs)) (bytesOf (getD xs i (pos 0) ∷ [])) lent out₁ (i * 4) l (rw e at p))
+    rw (bytes-more xs i h) (filled-more (bytesOf (take i xs)) (bytesOf (getD xs i (pos 0) ∷ [])) lent out₁ (i * 4) l (rw e at p))

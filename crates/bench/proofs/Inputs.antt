@@ -20,7 +20,7 @@ use Rattle.checks.specs.Checks.{given}
 use Rattle.formulas.specs.FormulaPromises.{lentFormula}
 use Rattle.theory.proofs.Accepted.{Sizes, lengths-passed, formula-lengths}
 use Rattle.bench.specs.Words.{readable, Decoded}
-use Rattle.bench.proofs.Bytes.{length-longs}
+use Rattle.theory.proofs.Bytes.{length-longs}
 
 -- xs is what the code makes of the bytes s, of which at most so many numbers are right
 pub record Reads (s : List ℕ) (most : ℕ) (xs : List ℤ) : Type 0 where

@@ -1,5 +1,5 @@
 -- Laws for the bench's proofs, from the top: each module stands on those above it only.
---     Bytes           numbers in bytes, read and written one after the other
+--     Bytes           a number in four bytes of a buffer, read there and written there
 --     Rooms           which lent bytes are read and which have room, from the tests of the code
 --     Verdicts        when two verdicts agree
 --     Inputs          what the code makes of lent inputs, and which problem and formula come of it

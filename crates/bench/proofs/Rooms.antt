@@ -13,7 +13,7 @@ use lib.IntN.{ℤ}
 use Rattle.whole.proofs.Tests.{true-not-false}
 use Rattle.rules.specs.Bytes.{long, longs, wholeNumbers}
 use Rattle.bench.specs.Words.{readable, Decoded, roomOf}
-use Rattle.bench.proofs.Bytes.{longs-suc}
+use Rattle.theory.proofs.Bytes.{longs-suc}
 
 -- ---- outputs
 pub room-torn : (s : List ℕ) (least : ℕ) → length s % 4 ≢ 0 → roomOf s least ≡ 0

@@ -28,7 +28,7 @@ use Rattle.theory.proofs.Sequence.{written}
 use Rattle.theory.proofs.Flag.{SomeBeyond}
 use Rattle.scaling.specs.declared.BuildAnswer.{BuildAnswer}
 use Rattle.scaling.specs.BuildPromise.{Builds, RoomToBuild}
-use Rattle.bench.proofs.Bytes.{length-longs}
+use Rattle.theory.proofs.Bytes.{length-longs}
 use Rattle.demands.proofs.Order.{taken-exactly, refused-exactly, buildChecks, build-not-0}
 use Rattle.demands.proofs.Limits.{both, and-exactly, at-least, problem-fits-exactly}
 use Rattle.demands.proofs.Table.{Row, NotAt0, row-at, ProblemLengths}

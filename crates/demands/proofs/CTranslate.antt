@@ -31,7 +31,7 @@ use Rattle.scaling.specs.declared.BuildAnswer.{BuildAnswer}
 use Rattle.formulas.specs.declared.TranslateAnswer.{TranslateAnswer}
 use Rattle.scaling.specs.BuildPromise.{Builds}
 use Rattle.formulas.specs.FormulaPromises.{Translates}
-use Rattle.bench.proofs.Bytes.{length-longs}
+use Rattle.theory.proofs.Bytes.{length-longs}
 use Rattle.demands.proofs.Order.{taken-exactly, refused-exactly, TermDecides, translateChecks, translate-not-0}
 use Rattle.demands.proofs.Limits.{both}
 use Rattle.demands.proofs.Table.{Row, NotAt0, row-at, FormulaLengths, formula-lengths-exactly}

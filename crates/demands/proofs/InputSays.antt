@@ -12,7 +12,7 @@ use Rattle.whole.proofs.Lists.{getD-map, length-join, join-at}
 use Rattle.rules.specs.Problem.{entry, modulus}
 use Rattle.rules.specs.Formulas.{terms, term}
 use Rattle.rules.specs.Frames.{TextLine, torn, frameOf, rowModulus, rowEntries, termCoefficient, termExponents}
-use Rattle.frames.proofs.Numbers.{shorts-length}
+use Rattle.theory.proofs.Bytes.{length-shorts}
 use Rattle.demands.proofs.Table.{FormulaLengths}
 use Rattle.demands.proofs.InputLines.{lineAt, mSaid, nSaid, WellFormedInput, problemSaid, formulaSaid, form-number}
 
@@ -32,11 +32,11 @@ module _ (n : ℕ) (g : TextLine → List ℤ) (has : (l : TextLine) → length 
 
 row-length : (n : ℕ) (l : TextLine) → length (rowEntries n l) ≡ n
 unfolding rowEntries
-row-length n l = shorts-length n (drop 3 (frameOf l))
+row-length n l = length-shorts n (drop 3 (frameOf l))
 
 term-length : (n : ℕ) (l : TextLine) → length (termExponents n l) ≡ n
 unfolding termExponents
-term-length n l = shorts-length n (drop 5 (frameOf l))
+term-length n l = length-shorts n (drop 5 (frameOf l))
 
 module _ (ls : List TextLine) (F : WellFormedInput ls) where
   abbrev m : ℕ

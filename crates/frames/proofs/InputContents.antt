@@ -13,10 +13,11 @@ use Rattle.whole.proofs.Order.{row-within}
 use Rattle.rules.specs.Calls.{translateVerdict}
 use Rattle.rules.specs.Bytes.{short, long, shorts}
 use Rattle.rules.specs.Frames.{unhex, TextLine, whole, frameOf, rowModulus, rowEntries, termCoefficient, termExponents, Reading, refusalLine, answered, answerTo}
+use Rattle.theory.proofs.Bytes.{length-shorts}
 use Rattle.frames.specs.declared.read.Input.{Input}
 use Rattle.frames.specs.Input.{problemIn, formulaIn, Sized, InputHolds, refuses, takes, empty, withRow, withTerm}
 use Rattle.frames.proofs.Digits.{frame-is, unhex-drop}
-use Rattle.frames.proofs.Numbers.{short-first, long-first, shorts-length}
+use Rattle.frames.proofs.Numbers.{short-first, long-first}
 use Rattle.frames.proofs.Stored.{number-more, numbers-more, count-more}
 
 -- ---- a line's numbers
@@ -84,7 +85,7 @@ module _ {m n : ℕ} {x : Input} {rows terms : List TextLine} (x-holds : LinesHe
   unfolding withRow
   held-row few room =
       let l : TextLine = whole (take (6 + 4 * n) t) in
-      let k = shorts-length n (unhex (2 * n) (drop 6 t)) in
+      let k = length-shorts n (unhex (2 * n) (drop 6 t)) in
       let r = row-within (length rows) n 8 16 few columns in
       record {
         number = x-holds .number;
@@ -105,7 +106,7 @@ module _ {m n : ℕ} {x : Input} {rows terms : List TextLine} (x-holds : LinesHe
   unfolding withTerm
   held-term few room =
       let l : TextLine = whole (take (10 + 4 * n) t) in
-      let k = shorts-length n (unhex (2 * n) (drop 10 t)) in
+      let k = length-shorts n (unhex (2 * n) (drop 10 t)) in
       let r = row-within (length terms) n 64 16 few columns in
       record {
         number = x-holds .number;

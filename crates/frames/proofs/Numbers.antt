@@ -4,7 +4,7 @@ use mathlib.Core.Path.{_≡_, refl, ap, _∙_}
 use mathlib.Core.List.{List, [], _∷_}
 use Prim.Native.Nat.{ℕ, zero, suc, _+_, _*_, _<_, _≤_}
 use native.Mathlib.Omega.{arith}
-use lib.ListN.{length, getD, drop}
+use lib.ListN.{getD, drop}
 use lib.Seq.{drop-drop}
 use lib.IntN.{ℤ}
 use Rattle.rules.specs.Bytes.{short, long, shorts}
@@ -38,11 +38,6 @@ long-first (suc zero) t h = absurd (omega arith)
 long-first (suc (suc zero)) t h = absurd (omega arith)
 long-first (suc (suc (suc zero))) t h = absurd (omega arith)
 long-first (suc (suc (suc (suc j)))) t h = refl
-
-pub shorts-length : (count : ℕ) (bs : List ℕ) → length (shorts count bs) ≡ count
-unfolding shorts
-shorts-length zero bs = refl
-shorts-length (suc count) bs = ap suc (shorts-length count (drop 2 bs))
 
 pub shorts-at : (count j i : ℕ) (t : List ℕ) (z : ℤ) → 2 * count ≤ j → i < count → getD (shorts count (unhex j t)) i z ≡ short (unhex 2 (drop (4 * i) t))
 unfolding shorts unhex

@@ -13,7 +13,7 @@ use Rattle.whole.proofs.Order.{row-within}
 use Rattle.rules.specs.Calls.{filled}
 use Rattle.rules.specs.Bytes.{byte, bytesOf}
 use Rattle.rules.specs.Frames.{digitOf, hex, frame, rowLines, termLines}
-use Rattle.theory.proofs.Bytes.{length-bytes, bytes-append}
+use Rattle.theory.proofs.Bytes.{length-bytes, bytes-more}
 use Rattle.frames.specs.Output.{Wrote, rowText, termText}
 use Rattle.frames.proofs.Writes.{hex-append, wrote-both, wrote-hex, wrote-length, wrote-two}
 
@@ -65,8 +65,7 @@ module _ {d e : List ℕ} {at p : ℕ} (zs : List ℤ) (from k count : ℕ) (h :
       → Wrote d f at (hex (bytesOf (take (k + 1) (drop from zs)))) q
   number-again z y g =
       let n : k < length (drop from zs) = omega (arith, length-drop from zs) in
-      let t : bytesOf (take (k + 1) (drop from zs)) ≡ bytesOf (take k (drop from zs)) ++ bytesOf (z ∷ [])
-      = ap bytesOf (rw (add-one, g, ← getD-drop) (take-suc (drop from zs) k (pos 0) n)) ∙ bytes-append (take k (drop from zs)) (z ∷ []) in
+      let t : bytesOf (take (k + 1) (drop from zs)) ≡ bytesOf (take k (drop from zs)) ++ bytesOf (z ∷ []) = rw (g, ← getD-drop) (bytes-more (drop from zs) k n) in
       rw t (wrote-hex (bytesOf (take k (drop from zs))) (bytesOf (z ∷ [])) x y (omega (arith, digits-length zs from k (omega arith), hex-length (bytesOf (z ∷ [])), length-bytes (z ∷ []))))
 
 -- ---- rows

@@ -13,8 +13,9 @@ use lib.IntN.{ℤ, pos}
 use Rattle.whole.specs.Lists.{join}
 use Rattle.rules.specs.Bytes.{short, shorts}
 use Rattle.rules.specs.Frames.{allDigits, unhex, TextLine}
+use Rattle.theory.proofs.Bytes.{length-shorts}
 use Rattle.frames.proofs.Digits.{part-digits}
-use Rattle.frames.proofs.Numbers.{shorts-length, shorts-at}
+use Rattle.frames.proofs.Numbers.{shorts-at}
 
 -- ---- lines
 pub count-more : (ls : List TextLine) (l : TextLine) → length (ls ++ l ∷ []) ≡ suc (length ls)
@@ -51,13 +52,13 @@ module _ (a : List ℤ) (from : ℕ) (s : List ℕ) (at count k : ℕ) where
 
   pub fill-length : k ≤ count → from + count ≤ length a → length (paste a from (shorts count (unhex (2 * count) (drop at s))) k) ≡ length a
   fill-length h l =
-      let e = shorts-length count (unhex (2 * count) (drop at s)) in
+      let e = length-shorts count (unhex (2 * count) (drop at s)) in
       length-paste a from (shorts count (unhex (2 * count) (drop at s))) k (omega arith) (omega arith)
 
   pub fill-again : (b : List ℤ) (z : ℤ) → k < count → from + count ≤ length a → b ≡ paste a from (shorts count (unhex (2 * count) (drop at s))) k
       → z ≡ short (unhex 2 (drop (at + 4 * k) s)) → set b (from + k) z ≡ paste a from (shorts count (unhex (2 * count) (drop at s))) (k + 1)
   fill-again b z h l e f =
-      let n = shorts-length count (unhex (2 * count) (drop at s)) in
+      let n = length-shorts count (unhex (2 * count) (drop at s)) in
       let g : z ≡ getD (shorts count (unhex (2 * count) (drop at s))) k (pos 0)
       = f ∙ sym (shorts-at count (2 * count) k (drop at s) (pos 0) (omega arith) h ∙ ap (λ (t : List ℕ). short (unhex 2 t)) (drop-drop (4 * k) at s)) in
       rw (e, g, add-one) (paste-suc a from (shorts count (unhex (2 * count) (drop at s))) k (pos 0) (omega arith) (omega arith))

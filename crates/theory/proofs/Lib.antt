@@ -34,7 +34,7 @@
 -- ---- the tests of rules' Limits, grids and bytes of numbers, and the searches
 --     Limits        the tests of rules/specs/Limits and what their answers say, for Accepted and the proofs of the checks
 --     Grid          the grid of a matrix, row after row, and such a list read as a matrix: what a lent buffer holds
---     Bytes         the bytes of a list of numbers, for `frames` and `bench`
+--     Bytes         numbers in bytes, one after the other, for `frames` and `bench`
 --     Search        what each result of a search means, as a view, and the sum over columns
 pub mod Limits
 pub mod Grid
