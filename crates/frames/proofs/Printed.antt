@@ -91,7 +91,7 @@ rows-length kind (suc i) width zs h =
     let s : suc i * width ≡ i * width + width = suc-mul i width in
     let j = rows-length kind i width zs (omega arith) in
     let r = row-length kind width zs (i * width) (omega arith) in
-    ap length (rows-more kind i width zs) ∙ length-append (rowLines kind i width zs) _ ∙ rw suc-mul (omega arith)
+    ap length (rows-more kind i width zs) ∙ length-append (rowLines kind i width zs) _ ∙ rw (suc-mul i (3 + 8 * width)) (omega arith)
 
 module _ {d e : List ℕ} {at p : ℕ} (kind i count width : ℕ) (zs : List ℤ) (h : i < count) (l : count * width ≤ length zs) (room : at + count * (3 + 8 * width) ≤ length d)
     (x : Wrote d e at (rowLines kind i width zs) p) where
@@ -135,7 +135,7 @@ terms-length d (c ∷ cs) es h =
     let s : suc (length cs) * d ≡ length cs * d + d = suc-mul (length cs) d in
     let j = terms-length d cs (drop d es) (omega (arith, length-drop d es)) in
     let r = term-length c d es 0 (omega arith) in
-    length-append (termText c (take d es)) (termLines d cs (drop d es)) ∙ rw suc-mul (omega arith)
+    length-append (termText c (take d es)) (termLines d cs (drop d es)) ∙ rw (suc-mul (length cs) (11 + 8 * d)) (omega arith)
 
 module _ {a b : List ℕ} {at p : ℕ} (d i count : ℕ) (cs es : List ℤ) (h : i < count) (l : count ≤ length cs) (m : count * d ≤ length es) (room : at + count * (11 + 8 * d) ≤ length a)
     (x : Wrote a b at (termLines d (take i cs) es) p) where
