@@ -51,7 +51,7 @@ pub record Modulus (P : Problem) (i : ℕ) : Type 0 where
   pub row : i < P .m
   pub filled : 0 < natAbs (modulus P i)
 
--- k's entry for a row with a modulus: the row times v, divided by the modulus
+-- what k has for row i (R8.4)
 abbrev pub kOfRow : Problem → (v : ℕ → ℤ) → (i : ℕ) → ℤ
 kOfRow P v i = quotZ (rowTimes P v i) (modulus P i)
 

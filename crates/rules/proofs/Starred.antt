@@ -235,6 +235,18 @@ pub record Traps : Type 0 where
   pub other : steps (alone (-3 ∷ -2 ∷ []) (pos 2)) ≡ 8
   -- stage 2 takes all N rows of V: the first m alone would leave rows (0 1),(-1 -2) (by hand)
   pub all : contentsV (alone (-1 ∷ []) (pos 2)) ≡ -1 ∷ -1 ∷ pos 1 ∷ pos 2 ∷ []
+  -- of two modulus columns the top row's comes first: the other way about V would have rows (1 1 2),(1 2 3),(3 4 6) (peer)
+  pub top-first : contentsV (problem 2 1 (pos 1 ∷ pos 1 ∷ []) (pos 2 ∷ pos 3 ∷ [])) ≡ pos 1 ∷ pos 2 ∷ pos 3 ∷ pos 1 ∷ pos 1 ∷ pos 2 ∷ pos 3 ∷ pos 4 ∷ pos 6 ∷ []
+  -- (B) takes the columns behind the pivot's from the first to the last: from the last to the first no step would pass M (peer)
+  pub forward : judged (problem 2 4 (negℤ (pos 7) ∷ -3 ∷ pos 27 ∷ pos 5 ∷ -1 ∷ negℤ (pos 7) ∷ pos 0 ∷ pos 9 ∷ []) (pos 655 ∷ pos 524 ∷ [])) ≡ refused 7 0
+  -- stage 3 takes the first r columns from the first to the last: from the last to the first no step would pass M (peer)
+  pub forward3 : judged (problem 5 8 (
+      pos 0 ∷ -1 ∷ pos 2 ∷ -1 ∷ -1 ∷ -1 ∷ pos 1 ∷ -1 ∷
+      -2 ∷ pos 0 ∷ pos 1 ∷ -1 ∷ pos 0 ∷ pos 2 ∷ pos 2 ∷ -2 ∷
+      pos 2 ∷ -1 ∷ pos 2 ∷ pos 2 ∷ pos 0 ∷ pos 1 ∷ pos 0 ∷ -1 ∷
+      -2 ∷ pos 2 ∷ -2 ∷ pos 1 ∷ pos 2 ∷ pos 2 ∷ -2 ∷ pos 0 ∷
+      pos 0 ∷ -1 ∷ -2 ∷ -1 ∷ -2 ∷ -1 ∷ pos 2 ∷ pos 2 ∷ []
+      ) (pos 0 ∷ pos 0 ∷ pos 0 ∷ pos 0 ∷ pos 0 ∷ [])) ≡ refused 7 0
   -- with r = 0 nothing is done (peer)
   pub rank0 : rank (alone (pos 0 ∷ pos 0 ∷ []) (pos 0)) ≡ 0
   pub V0 : contentsV (alone (pos 0 ∷ pos 0 ∷ []) (pos 0)) ≡ pos 1 ∷ pos 0 ∷ pos 0 ∷ pos 1 ∷ []
@@ -318,6 +330,9 @@ traps = record {
   lowest = refl;
   other = refl;
   all = refl;
+  forward3 = refl;
+  forward = refl;
+  top-first = refl;
   rank0 = refl;
   V0 = refl;
   W0 = refl;
