@@ -59,12 +59,7 @@ nm -g --defined-only "$folder/glaukemis.o" | awk '{ print $3 }' | sort >"$folder
 diff "$folder/calls" "$folder/global" >"$folder/diff" ||
     stop "the calls of $header (<) are not those of $archive (>); remove that and run again"$'\n'"$(cat "$folder/diff")"
 ar rcsD "$folder/libglaukemis.a" "$folder/glaukemis.o"
-{
-    echo "{ global:"
-    sed 's/$/;/' "$folder/calls"
-    echo "local: *; };"
-} >"$folder/exported"
-gcc -shared -Wl,-soname,"$soname" -Wl,--version-script="$folder/exported" -Wl,-z,defs,-z,now,-z,relro \
+gcc -shared -Wl,-soname,"$soname" -Wl,-z,defs,-z,now,-z,relro \
     "$folder/glaukemis.o" -o "$folder/libglaukemis.so"
 
 cat >"$folder/glaukemis.pc" <<END

@@ -33,7 +33,7 @@ for crate in $(sed -n 's/^\([a-z][a-z_]*\):.*/\1/p' crates.txt); do
 done
 echo "| all | ${all[0]} | ${all[1]} | ${all[2]} | ${all[3]} | ${all[4]} | $((all[5] / 10)).$((all[5] % 10)) |"
 echo
-echo "Outside the crates, lines that are not blank: peer $(lines peer/src '*.rs') of Rust, $(lines peer '*.c') of C; example and header $(($(lines examples '*.c') + $(lines include '*.h'))) of C; scripts $(($(lines tests '*.sh') + $(lines peer '*.sh') + $(lines docs '*.sh') + $(grep -c '[^[:space:]]' .ci/run))) of bash."
+echo "Outside the crates, lines that are not blank: peer $(lines peer/src '*.rs') of Rust, $(lines peer '*.c') of C; parlour $(($(lines parlour/src '*.rs') + $(lines parlour/tests '*.rs'))) of Rust; example, header and their tests $(($(lines examples '*.c') + $(lines include '*.h') + $(lines tests '*.c'))) of C; scripts $(($(cat install.sh archive.sh .ci/run | grep -c '[^[:space:]]') + $(lines parlour '*.sh') + $(lines tests '*.sh') + $(lines peer '*.sh') + $(lines docs '*.sh'))) of bash."
 [ "${1:-}" = --no-gate ] && exit
 begun=$(date +%s)
 result=$(bash .ci/run 2>&1 | tail -n 1)

@@ -4,6 +4,8 @@
  *
  *     cc program.c $(pkg-config --cflags --libs glaukemis)
  *
+ * and where PREFIX/lib is no folder that the loader searches, set LD_LIBRARY_PATH to it or link with -static.
+ *
  * A PROBLEM has a row for each of m dimensions and a column for each of n quantities: entry j of row i is the power of dimension i in
  * quantity j. And it has a modulus for each row: 0 for none, or else the p that counts as nothing there. Below, s is the count of moduli
  * other than 0, N is n + s, r is the rank that the build tells, and d is N - r, the number of groups.

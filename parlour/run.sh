@@ -5,7 +5,7 @@
 #
 # or any other command of parlour (docs/PARLOUR.md).
 set -euo pipefail
-root=$(cd "$(dirname "$0")/.." && pwd)
+root=$(CDPATH='' cd -- "$(dirname -- "$0")/.." && pwd)
 bash "$root/archive.sh"
-cargo build --release --offline --quiet --manifest-path "$root/parlour/Cargo.toml"
+cargo build --release --offline --quiet --manifest-path "$root/parlour/Cargo.toml" --target-dir "$root/parlour/target"
 exec "$root/parlour/target/release/parlour" "$@"

@@ -134,6 +134,7 @@ done
 without_rt() { PATH=$folder/bin bash "$tree/install.sh" "$folder/none"; }
 try "no prefix" refuses "PREFIX" bash install.sh
 try "two prefixes" refuses "PREFIX" bash install.sh "$folder/none" "$folder/none"
+try "a blank in the prefix" refuses "no blanks" bash install.sh "$folder/none/a b"
 try "DESTDIR and a relative prefix" refuses "DESTDIR" env DESTDIR="$folder/none" bash install.sh none
 touch -d '1 hour' "$tree/crates/later.rt"
 try "an archive older than the sources, and no rt" refuses "older than the sources" without_rt
@@ -142,7 +143,12 @@ try "no archive, and no rt" refuses "is missing" without_rt
 cp $archive "$tree/$archive"
 sed -i 's/^glaukemis_weigh_answer glaukemis_weigh(/glaukemis_weigh_answer glaukemis_lacking(void);\n&/' "$tree/include/glaukemis.h"
 try "an archive that lacks a call" refuses "glaukemis_lacking" without_rt
+sed -i '/^#define GLAUKEMIS_VERSION "/d' "$tree/include/glaukemis.h"
+try "a header without a version" refuses "has no version" without_rt
 cp include/glaukemis.h "$tree/include/"
+rm "$folder/bin/objcopy"
+try "no objcopy" refuses "objcopy is missing" without_rt
+ln -s "$(command -v objcopy)" "$folder/bin/objcopy"
 try "the same tree without a fault" without_rt
 
 echo "$passed passed, $failed failed"

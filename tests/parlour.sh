@@ -10,7 +10,7 @@ dir=$(mktemp -d)
 trap 'rm -rf "$dir"' EXIT
 passed=0 failed=0
 
-cargo build --release --offline --quiet --manifest-path parlour/Cargo.toml || failed=$((failed + 1))
+cargo build --release --offline --quiet --manifest-path parlour/Cargo.toml --target-dir parlour/target || failed=$((failed + 1))
 mkdir "$dir/bin"
 cp parlour/target/release/parlour target/bin/glaukemis "$dir/bin" || failed=$((failed + 1))
 
@@ -82,7 +82,7 @@ for file in tests/parlour/*.parlour; do
     fi
 done
 
-cargo test --release --offline --quiet --manifest-path parlour/Cargo.toml 2>&1 | tee "$dir/log"
+cargo test --release --offline --quiet --manifest-path parlour/Cargo.toml --target-dir parlour/target 2>&1 | tee "$dir/log"
 status=${PIPESTATUS[0]}
 while read -r _ _ _ p _ f _; do
     passed=$((passed + p)) failed=$((failed + f))

@@ -36,13 +36,34 @@ pub fn read(bytes: &[u8]) -> Result<Said, Fault> {
 
 /// The number in one byte, and the place in two.
 fn refusal(lines: &Lines, bytes: &[u8]) -> Result<Refusal, Fault> {
-    match *bytes {
-        [number, high, low] => Ok(Refusal {
+    let refusal = match *bytes {
+        [number, high, low] => Refusal {
             number: u32::from(number),
             place: usize::from(u16::from_be_bytes([high, low])),
             reading: 0.0,
-        }),
-        _ => Err(lines.expected("ff and 3 bytes")),
+        },
+        _ => return Err(lines.expected("ff and 3 bytes")),
+    };
+    if refusal.place > highest_place(refusal.number) {
+        let (number, place) = (refusal.number, refusal.place);
+        let words = format!("the program has no refusal {number} at place {place}");
+        return Err(lines.fault(words));
+    }
+    Ok(refusal)
+}
+
+/// The highest place that a refusal of the program has.
+fn highest_place(number: u32) -> usize {
+    match number {
+        4 => MOST_DIMENSIONS - 1,
+        5 => MOST_DIMENSIONS * MOST_QUANTITIES - 1,
+        6 => MOST_TERMS * MOST_QUANTITIES - 1,
+        8 | 9 => MOST_TERMS - 1,
+        // the sizes, the rows, the terms, and one line more
+        10 => 1 + MOST_DIMENSIONS + MOST_TERMS,
+        1 | 7 => 0,
+        // no refusal of the program's, as is told where it is put in words
+        _ => usize::MAX,
     }
 }
 

@@ -13,6 +13,8 @@
 //! | `frames`, `explain` | the lines of the program `glaukemis`, written and read |
 //! | `commands` | a command |
 
+#![deny(unsafe_code)]
+
 pub mod answer;
 pub mod commands;
 pub mod explain;

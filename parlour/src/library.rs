@@ -1,5 +1,6 @@
 //! The calls of the C library on whole lists, and what they answer.
 
+#[allow(unsafe_code)]
 mod c;
 
 pub use c::CLibrary;

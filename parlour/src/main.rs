@@ -1,5 +1,7 @@
 //! The program `parlour`.
 
+#![deny(unsafe_code)]
+
 use parlour::commands::run;
 use parlour::library::CLibrary;
 use parlour::words::Status;

@@ -71,7 +71,9 @@ pub fn quoted(word: &str) -> String {
     if text.len() < word.len() {
         text.push_str("..");
     }
-    format!("'{}'", text.escape_debug())
+    // one by one: what would join the character before it is shown as well
+    let escaped: String = text.chars().flat_map(char::escape_debug).collect();
+    format!("'{escaped}'")
 }
 
 /// What was expected, and what stands there.

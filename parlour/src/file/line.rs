@@ -157,8 +157,8 @@ impl<'a> Line<'a> {
         // Each exponent fits 32 bits, and a file has too few words to pass 64.
         let mut sums = vec![0i64; known.len()];
         while let Some(word) = self.next() {
-            let (name, exponent) = self.factor(word)?;
-            sums[self.known(kind, name, known)?] += i64::from(exponent);
+            let (name, exponent) = self.factor(kind, word)?;
+            sums[self.known(kind, name, known)?] += exponent;
         }
         let sums = sums.iter().zip(known);
         let fitting = sums.map(|(&sum, (name, _))| {
@@ -171,8 +171,12 @@ impl<'a> Line<'a> {
     }
 
     /// A name, or a name, ^ and an exponent.
-    fn factor(&self, word: &'a str) -> Result<(&'a str, i32), Fault> {
-        if word.contains(['*', '/']) {
+    fn factor(&self, kind: &str, word: &'a str) -> Result<(&'a str, i64), Fault> {
+        if kind == "quantity" && ["+", "-", "="].contains(&word) {
+            let rule = "each term has a line of its own";
+            return Err(self.fault(format!("{rule}, not {}", quoted(word))));
+        }
+        if word.contains(['*', '/']) && !word.contains("^(") {
             let rule = "write factors with blanks between them, and an exponent below 0 to divide";
             return Err(self.fault(format!("{rule}, not {}", quoted(word))));
         }
@@ -181,9 +185,44 @@ impl<'a> Line<'a> {
             Some(("", _)) => Err(self.expected("a name before ^", Some(word))),
             Some((name, exponent)) => {
                 let name = self.checked_name(name)?;
-                let what = format!("a whole number right after {name}^");
-                Ok((name, self.checked_whole(&what, exponent)?))
+                Ok((name, self.exponent(name, exponent)?))
             }
         }
     }
+
+    /// A whole number, or in parentheses a sum of such. Without them `x^2+3` could be meant
+    /// for two terms.
+    fn exponent(&self, name: &str, word: &str) -> Result<i64, Fault> {
+        let sum = word
+            .strip_prefix('(')
+            .and_then(|word| word.strip_suffix(')'));
+        if let Some(sum) = sum {
+            let what = format!("whole numbers with + or - between them in {name}^(..)");
+            let numbers = signed_parts(sum).map(|part| match part.parse::<i32>() {
+                Ok(number) => Ok(i64::from(number)),
+                Err(_) => Err(self.expected(&what, Some(word))),
+            });
+            return numbers.sum();
+        }
+        if signed_parts(word).count() > 1
+            && signed_parts(word).all(|part| part.parse::<i32>().is_ok())
+        {
+            let rule = format!("put a sum in parentheses, {name}^({word})");
+            return Err(self.fault(format!("{rule}, not {}", quoted(word))));
+        }
+        let what = format!("a whole number right after {name}^");
+        self.checked_whole(&what, word).map(i64::from)
+    }
+}
+
+/// A sum cut before each sign but the first character's: `2+1-5` is 2, +1 and -5.
+fn signed_parts(sum: &str) -> impl Iterator<Item = &str> {
+    let signs = sum
+        .char_indices()
+        .skip(1)
+        .filter(|(_, c)| ['+', '-'].contains(c));
+    let mut cuts: Vec<usize> = vec![0];
+    cuts.extend(signs.map(|(at, _)| at));
+    cuts.push(sum.len());
+    (1..cuts.len()).map(move |i| &sum[cuts[i - 1]..cuts[i]])
 }

@@ -96,6 +96,43 @@ fn numbers_at_their_ends() {
     assert!(fault(&sum).contains("the exponents of q add up to 2147483648"));
 }
 
+/// In parentheses; outside of them `q^2+3` could be meant for two terms.
+#[test]
+fn sums_in_exponents() {
+    let of = |exponent: &str| {
+        let text = format!("dimension a\nquantity q a\nterm 1 q^{exponent}");
+        read(text.as_bytes()).map(|sheet| sheet.terms[0].exponents[0])
+    };
+    for (text, value) in [
+        ("(2+1-5)", -2),
+        ("(-1)", -1),
+        ("(+3-3)", 0),
+        ("(2147483647+1-1)", i32::MAX),
+        ("(-2147483648)", i32::MIN),
+    ] {
+        assert_eq!(of(text), Ok(value), "{text}");
+    }
+    for bad in [
+        "()",
+        "(1",
+        "1)",
+        "(1)2",
+        "((1))",
+        "(1+)",
+        "(+)",
+        "(1++2)",
+        "(1+-2)",
+        "(é+1)",
+        "(1/2)",
+        "2+1",
+        "2-1",
+        "(2147483648)",
+        "(2147483647+1)",
+    ] {
+        assert!(of(bad).is_err(), "{bad}");
+    }
+}
+
 #[test]
 fn readings_at_their_ends() {
     let of = |reading: &str| {
