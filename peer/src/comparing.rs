@@ -4,6 +4,7 @@
 pub mod gauges;
 mod lists;
 pub(crate) mod numbers;
+pub mod single;
 pub mod weights;
 
 use crate::library::Library;

@@ -70,13 +70,11 @@ fn library(damage: Option<&str>) -> Box<dyn peer::library::Library> {
 #[cfg(any(feature = "bench", feature = "selftest"))]
 mod run {
     use peer::boundary;
-    use peer::comparing::gauges::{GaugeCall, GaugeTally};
-    use peer::comparing::weights::{Due as DueWeights, WeighCall, WeighTally};
+    use peer::comparing::single::{Case, Compared, Count};
     use peer::comparing::{Call, Tally};
     use peer::generate;
     use peer::library::Library;
     use peer::random::Random;
-    use peer::verify::gauges::Due;
 
     /// Mismatches that are printed in full.
     const PRINTED: u64 = 5;
@@ -84,11 +82,11 @@ mod run {
     /// So many random calls of `weigh` or `gauge` come to every number that it answers.
     const LEAST: u64 = 2_000;
 
-    fn print_kinds(name: &str, kinds: &[u64]) {
-        println!("{name}: accepted {}", kinds[0]);
-        for (number, &count) in kinds.iter().enumerate().skip(1) {
-            if count > 0 {
-                println!("{name}: refused {number}: {count}");
+    fn print_kinds(name: &str, kinds: impl Iterator<Item = (u32, u64)>) {
+        for (number, met) in kinds.filter(|(_, met)| *met > 0) {
+            match number {
+                0 => println!("{name}: accepted {met}"),
+                _ => println!("{name}: refused {number}: {met}"),
             }
         }
     }
@@ -119,67 +117,54 @@ mod run {
             one(&mut tally, &call);
         }
         println!("random problems: {count}");
-        print_kinds("build", &tally.build);
-        print_kinds("translate", &tally.translate);
-        print_kinds("build_numbers", &tally.build_numbers);
-        print_kinds("translate_numbers", &tally.translate_numbers);
-        let weights = run_weights(library, count, seed, trace);
-        let gauges = run_gauges(library, count, seed, trace);
-        let passed = tally.passed + weights.passed + gauges.passed;
-        let failed = tally.failed + weights.failed + gauges.failed;
+        for (name, kinds) in [
+            ("build", &tally.build),
+            ("translate", &tally.translate),
+            ("build_numbers", &tally.build_numbers),
+            ("translate_numbers", &tally.translate_numbers),
+        ] {
+            print_kinds(name, (0..).zip(kinds.iter().copied()));
+        }
+        let weights = Inputs {
+            cases: boundary::weights::cases(),
+            systematic: generate::weights::systematic,
+            call: generate::weights::call,
+        };
+        let gauges = Inputs {
+            cases: boundary::gauges::cases(),
+            systematic: generate::gauges::systematic::calls,
+            call: generate::gauges::call,
+        };
+        let counts = [
+            (tally.passed, tally.failed),
+            run_call(library, &weights, (count, seed, 1 << 62), trace),
+            run_call(library, &gauges, (count, seed, 1 << 63), trace),
+        ];
+        let passed: u64 = counts.iter().map(|count| count.0).sum();
+        let failed: u64 = counts.iter().map(|count| count.1).sum();
         println!("{passed} passed, {failed} failed");
         failed == 0
     }
 
-    /// The comparison of `weigh`; a number that no random call came to has failed.
-    fn run_weights(library: &mut dyn Library, count: u64, seed: u64, trace: bool) -> WeighTally {
-        // Generators of its own: the inputs of the other calls stay as they are.
-        let mut random = Random::new(seed ^ (1 << 62));
-        let mut patterns = Random::new(!seed ^ (1 << 62));
-        let mut one = |tally: &mut WeighTally, call: &WeighCall, written: Option<&DueWeights>| {
-            if trace {
-                println!("{}", call.describe());
-            }
-            let result = tally.compare(library, call, written, &mut patterns);
-            if let Err(error) = result {
-                if tally.failed <= PRINTED {
-                    println!("MISMATCH: {error}\n{}", call.describe());
-                }
-            }
-        };
-        let mut fixed = WeighTally::default();
-        for case in boundary::weights::cases() {
-            one(&mut fixed, &case.call, Some(&case.due));
-        }
-        println!("weigh, written answers: {}", fixed.passed + fixed.failed);
-        let systematic = generate::weights::systematic(&mut random);
-        for call in &systematic {
-            one(&mut fixed, call, None);
-        }
-        println!("weigh, systematic calls: {}", systematic.len());
-        let mut tally = WeighTally::default();
-        let count = count.max(LEAST);
-        for _ in 0..count {
-            let call = generate::weights::call(&mut random);
-            one(&mut tally, &call, None);
-        }
-        println!("weigh, random calls: {count}");
-        print_kinds("weigh", &tally.numbers);
-        for number in tally.never() {
-            println!("NEVER: no random call of weigh was answered {number}");
-            tally.failed += 1;
-        }
-        tally.passed += fixed.passed;
-        tally.failed += fixed.failed;
-        tally
+    /// The inputs of a call that is compared by itself.
+    struct Inputs<C: Compared> {
+        cases: Vec<Case<C>>,
+        systematic: fn(&mut Random) -> Vec<C>,
+        call: fn(&mut Random) -> C,
     }
 
-    /// The comparison of `gauge`; a number that no random call came to has failed.
-    fn run_gauges(library: &mut dyn Library, count: u64, seed: u64, trace: bool) -> GaugeTally {
-        // Generators of its own: the inputs of the other calls stay as they are.
-        let mut random = Random::new(seed ^ (1 << 63));
-        let mut patterns = Random::new(!seed ^ (1 << 63));
-        let mut one = |tally: &mut GaugeTally, call: &GaugeCall, written: Option<Due>| {
+    /// Counts passed and failed inputs of a call; a number that no random one came to has
+    /// failed. `salt` gives the call generators of its own, so that its inputs do not
+    /// depend on what other calls take.
+    fn run_call<C: Compared>(
+        library: &mut dyn Library,
+        inputs: &Inputs<C>,
+        (count, seed, salt): (u64, u64, u64),
+        trace: bool,
+    ) -> (u64, u64) {
+        let mut random = Random::new(seed ^ salt);
+        let mut patterns = Random::new(!seed ^ salt);
+        let mut one = |tally: &mut Count, call: &C, written: Option<&C::Due>| {
             if trace {
                 println!("{}", call.describe());
             }
@@ -190,30 +175,30 @@ mod run {
                 }
             }
         };
-        let mut fixed = GaugeTally::default();
-        for case in boundary::gauges::cases() {
-            one(&mut fixed, &case.call, Some(case.due));
+        let mut fixed = Count::default();
+        for case in &inputs.cases {
+            one(&mut fixed, &case.call, Some(&case.due));
         }
-        println!("gauge, written answers: {}", fixed.passed + fixed.failed);
-        let systematic = generate::gauges::systematic::calls(&mut random);
+        println!("{}, written answers: {}", C::NAME, inputs.cases.len());
+        let systematic = (inputs.systematic)(&mut random);
         for call in &systematic {
             one(&mut fixed, call, None);
         }
-        println!("gauge, systematic calls: {}", systematic.len());
-        let mut tally = GaugeTally::default();
+        println!("{}, systematic calls: {}", C::NAME, systematic.len());
+        let mut tally = Count::default();
         let count = count.max(LEAST);
         for _ in 0..count {
-            let call = generate::gauges::call(&mut random);
-            one(&mut tally, &call, None);
+            one(&mut tally, &(inputs.call)(&mut random), None);
         }
-        println!("gauge, random calls: {count}");
-        print_kinds("gauge", &tally.numbers);
-        for number in tally.never() {
-            println!("NEVER: no random call of gauge was answered {number}");
+        println!("{}, random calls: {count}", C::NAME);
+        print_kinds(
+            C::NAME,
+            tally.numbers.iter().map(|(&number, &met)| (number, met)),
+        );
+        for number in tally.never(C::NUMBERS) {
+            println!("NEVER: no random call of {} was answered {number}", C::NAME);
             tally.failed += 1;
         }
-        tally.passed += fixed.passed;
-        tally.failed += fixed.failed;
-        tally
+        (tally.passed + fixed.passed, tally.failed + fixed.failed)
     }
 }

@@ -6,16 +6,13 @@ mod orders;
 mod refusals;
 
 use crate::comparing::gauges::GaugeCall;
+use crate::comparing::single;
 use crate::model::Problem;
 use crate::problems;
-use crate::verify::gauges::{bits_of_two, Due};
+use crate::verify::gauges::bits_of_two;
 
 /// A call with its answer.
-#[derive(Clone, Debug)]
-pub struct Case {
-    pub call: GaugeCall,
-    pub due: Due,
-}
+pub type Case = single::Case<GaugeCall>;
 
 /// The call whose answer is a value with these bits.
 fn value(problem: &Problem, readings: &[f64], group: u32, bits: u64) -> Case {
@@ -213,7 +210,7 @@ fn edges() -> Vec<Case> {
 #[cfg(test)]
 mod tests {
     use super::*;
-    use crate::comparing::gauges::NUMBERS;
+    use crate::comparing::single::Compared;
     use crate::model::gauges::gauge;
 
     /// The model answers as is written, and every number is among the answers.
@@ -232,7 +229,7 @@ mod tests {
             let given = (answer.number, answer.place, answer.value.to_bits());
             assert_eq!(given, *due, "{}", call.describe());
         }
-        for number in NUMBERS {
+        for &number in GaugeCall::NUMBERS {
             assert!(cases.iter().any(|case| case.due.0 == number), "{number}");
         }
     }

@@ -1,16 +1,13 @@
 //! Calls of `weigh` at the limits of its rules, each with its answer written out by
 //! hand. None of the answers came from the model.
 
-use crate::comparing::weights::{Due, WeighCall};
+use crate::comparing::single;
+use crate::comparing::weights::WeighCall;
 use crate::model::Problem;
 use crate::problems;
 
 /// A call with its answer.
-#[derive(Clone, Debug)]
-pub struct Case {
-    pub call: WeighCall,
-    pub due: Due,
-}
+pub type Case = single::Case<WeighCall>;
 
 /// The call whose answer is these weights.
 fn weighs(problem: &Problem, exponents: &[i32], weights: &[i32]) -> Case {
@@ -198,6 +195,7 @@ fn refusals() -> Vec<Case> {
 #[cfg(test)]
 mod tests {
     use super::*;
+    use crate::comparing::single::Compared;
     use crate::model::calls::weigh;
     use crate::verify;
 
@@ -220,7 +218,7 @@ mod tests {
             assert_eq!(given, *due, "{}", call.describe());
             assert!(weights[written..].iter().all(|&x| x == 77));
         }
-        for number in 0..=6 {
+        for &number in WeighCall::NUMBERS {
             assert!(cases.iter().any(|case| case.due.0 == number), "{number}");
         }
     }

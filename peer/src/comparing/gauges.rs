@@ -2,6 +2,7 @@
 //! each answer from 11 on with the definitions through `verify`.
 
 use super::lists::{Between, NO_ENTRY, NO_MODULUS};
+use super::single::Compared;
 use super::{compare_build, same, Call};
 use crate::library::Library;
 use crate::model::gauges::gauge;
@@ -34,27 +35,6 @@ impl GaugeCall {
         }
     }
 
-    /// All of the input; each reading as its bits.
-    pub fn describe(&self) -> String {
-        let readings: Vec<String> = self
-            .readings
-            .iter()
-            .map(|x| format!("{:016x} ({x:e})", x.to_bits()))
-            .collect();
-        format!(
-            "gauge: m {} n {} group {}\nmatrix ({}) {:?}\nmoduli ({}) {:?}\nreadings ({}) {}\n",
-            self.m,
-            self.n,
-            self.group,
-            self.matrix.len(),
-            self.matrix,
-            self.moduli.len(),
-            self.moduli,
-            readings.len(),
-            readings.join(", "),
-        )
-    }
-
     /// The problem of a call that came through the checks of sizes and lengths.
     fn problem(&self) -> Problem {
         let (m, n) = (self.m as usize, self.n as usize);
@@ -75,13 +55,13 @@ fn held(why: &str, given: Due, due: Due) -> Result<(), String> {
 }
 
 /// Calls the library and the model on the same input and compares them; gives
-/// the answer. `written` is what the answer has to be, where that is known.
+/// the answer's number. `written` is what the answer has to be, where that is known.
 fn compare(
     library: &mut dyn Library,
     call: &GaugeCall,
-    written: Option<Due>,
+    written: Option<&Due>,
     random: &mut Random,
-) -> Result<Due, String> {
+) -> Result<u32, String> {
     let matrix = Between::new(&call.matrix, NO_ENTRY, random);
     let moduli = Between::new(&call.moduli, NO_MODULUS, random);
     let readings = Between::new(&call.readings, NO_READING, random);
@@ -107,7 +87,7 @@ fn compare(
     same("gauge", answer, right)?;
     // What follows does not use the model.
     let given = (answer.number, answer.place, answer.value.to_bits());
-    if let Some(written) = written {
+    if let Some(&written) = written {
         held("as written", given, written)?;
     }
     if !(1..=7).contains(&answer.number) {
@@ -123,64 +103,41 @@ fn compare(
         let due = due(&problem, rank, &v, &call.readings, call.group)?;
         held("by the definitions", given, due)?;
     }
-    Ok(given)
+    Ok(answer.number)
 }
 
-/// The numbers that the call answers; 0 is a value.
-pub const NUMBERS: [u32; 10] = [0, 1, 2, 4, 5, 7, 11, 24, 12, 13];
+impl Compared for GaugeCall {
+    const NAME: &'static str = "gauge";
+    const NUMBERS: &'static [u32] = &[0, 1, 2, 4, 5, 7, 11, 24, 12, 13];
+    type Due = Due;
 
-/// How many answers of each number there were.
-#[derive(Clone, Debug, Default)]
-pub struct GaugeTally {
-    pub numbers: [u64; 25],
-    pub passed: u64,
-    pub failed: u64,
-}
+    /// All of the input; each reading as its bits.
+    fn describe(&self) -> String {
+        let readings: Vec<String> = self
+            .readings
+            .iter()
+            .map(|x| format!("{:016x} ({x:e})", x.to_bits()))
+            .collect();
+        format!(
+            "gauge: m {} n {} group {}\nmatrix ({}) {:?}\nmoduli ({}) {:?}\nreadings ({}) {}\n",
+            self.m,
+            self.n,
+            self.group,
+            self.matrix.len(),
+            self.matrix,
+            self.moduli.len(),
+            self.moduli,
+            readings.len(),
+            readings.join(", "),
+        )
+    }
 
-impl GaugeTally {
-    /// Compares one input and counts it; gives what is wrong.
-    pub fn compare(
-        &mut self,
+    fn compare(
+        &self,
         library: &mut dyn Library,
-        call: &GaugeCall,
-        written: Option<Due>,
+        written: Option<&Due>,
         random: &mut Random,
-    ) -> Result<(), String> {
-        match compare(library, call, written, random) {
-            Ok((number, ..)) => {
-                self.numbers[number as usize] += 1;
-                self.passed += 1;
-                Ok(())
-            }
-            Err(error) => {
-                self.failed += 1;
-                Err(error)
-            }
-        }
-    }
-
-    /// The numbers that no answer had: without them a comparison says nothing of
-    /// those answers.
-    pub fn never(&self) -> Vec<u32> {
-        let never = |number: &u32| self.numbers[*number as usize] == 0;
-        NUMBERS.into_iter().filter(never).collect()
-    }
-}
-
-#[cfg(test)]
-mod tests {
-    use super::*;
-
-    /// A tally tells what it never met.
-    #[test]
-    fn never_is_told() {
-        let mut tally = GaugeTally::default();
-        assert_eq!(tally.never(), NUMBERS);
-        for number in NUMBERS {
-            assert!(tally.never().contains(&number));
-            tally.numbers[number as usize] += 1;
-            assert!(!tally.never().contains(&number));
-        }
-        assert!(tally.never().is_empty());
+    ) -> Result<u32, String> {
+        compare(library, self, written, random)
     }
 }

@@ -3,6 +3,7 @@
 
 use super::lists::{Between, Output, NO_ENTRY, NO_EXPONENT, NO_MODULUS};
 use super::same;
+use super::single::Compared;
 use crate::library::Library;
 use crate::model::calls::{weigh, WEIGHTS_SIZE};
 use crate::model::Problem;
@@ -35,22 +36,6 @@ impl WeighCall {
             exponents: exponents.to_vec(),
             weights: WEIGHTS_SIZE,
         }
-    }
-
-    /// All of the input.
-    pub fn describe(&self) -> String {
-        format!(
-            "weigh: m {} n {}, {} weights\nmatrix ({}) {:?}\nmoduli ({}) {:?}\nexponents ({}) {:?}\n",
-            self.m,
-            self.n,
-            self.weights,
-            self.matrix.len(),
-            self.matrix,
-            self.moduli.len(),
-            self.moduli,
-            self.exponents.len(),
-            self.exponents,
-        )
     }
 }
 
@@ -112,56 +97,32 @@ fn compare(
     Ok(answer.number)
 }
 
-/// How many answers of each number there were; 0 is no refusal.
-#[derive(Clone, Debug, Default)]
-pub struct WeighTally {
-    pub numbers: [u64; 7],
-    pub passed: u64,
-    pub failed: u64,
-}
+impl Compared for WeighCall {
+    const NAME: &'static str = "weigh";
+    const NUMBERS: &'static [u32] = &[0, 1, 2, 3, 4, 5, 6];
+    type Due = Due;
 
-impl WeighTally {
-    /// Compares one input and counts it; gives what is wrong.
-    pub fn compare(
-        &mut self,
+    fn describe(&self) -> String {
+        format!(
+            "weigh: m {} n {}, {} weights\nmatrix ({}) {:?}\nmoduli ({}) {:?}\nexponents ({}) {:?}\n",
+            self.m,
+            self.n,
+            self.weights,
+            self.matrix.len(),
+            self.matrix,
+            self.moduli.len(),
+            self.moduli,
+            self.exponents.len(),
+            self.exponents,
+        )
+    }
+
+    fn compare(
+        &self,
         library: &mut dyn Library,
-        call: &WeighCall,
         written: Option<&Due>,
         random: &mut Random,
-    ) -> Result<(), String> {
-        match compare(library, call, written, random) {
-            Ok(number) => {
-                self.numbers[number as usize] += 1;
-                self.passed += 1;
-                Ok(())
-            }
-            Err(error) => {
-                self.failed += 1;
-                Err(error)
-            }
-        }
-    }
-
-    /// The numbers from 0 to 6 that no answer had: without them a comparison says
-    /// nothing of those answers.
-    pub fn never(&self) -> Vec<u32> {
-        let never = |number: &u32| self.numbers[*number as usize] == 0;
-        (0..=6).filter(never).collect()
-    }
-}
-
-#[cfg(test)]
-mod tests {
-    use super::*;
-
-    /// A tally tells what it never met.
-    #[test]
-    fn never_is_told() {
-        let mut tally = WeighTally::default();
-        assert_eq!(tally.never(), [0, 1, 2, 3, 4, 5, 6]);
-        tally.numbers[4] = 1;
-        assert_eq!(tally.never(), [0, 1, 2, 3, 5, 6]);
-        tally.numbers = [1; 7];
-        assert!(tally.never().is_empty());
+    ) -> Result<u32, String> {
+        compare(library, self, written, random)
     }
 }

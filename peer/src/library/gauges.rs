@@ -305,30 +305,22 @@ fn built(call: &GaugeCall) -> (Problem, Built) {
 
 #[cfg(test)]
 mod tests {
-    use super::super::{Damage, Damaged, Library, Model};
+    use super::super::{Damage, Damaged, Model};
     use super::*;
     use crate::boundary;
-    use crate::comparing::gauges::GaugeTally;
+    use crate::comparing::single::tests::counted;
+    use crate::comparing::single::Compared;
     use crate::generate;
     use crate::random::Random;
     use crate::verify::gauges::Due;
 
-    fn tally(library: &mut dyn Library, calls: &[(GaugeCall, Option<Due>)]) -> GaugeTally {
-        let mut tally = GaugeTally::default();
-        let mut patterns = Random::new(2);
-        for (call, written) in calls {
-            let _ = tally.compare(library, call, *written, &mut patterns);
-        }
-        tally
-    }
-
     /// The model passes, and each mistake is seen, made in one answer only.
     fn all_are_seen(calls: &[(GaugeCall, Option<Due>)], before: usize) {
-        let right = tally(&mut Model, calls);
-        assert_eq!((right.failed, right.never()), (0, vec![]));
+        let right = counted(&mut Model, calls);
+        assert_eq!((right.failed, right.never(GaugeCall::NUMBERS)), (0, vec![]));
         for wrong in WRONGS {
             let mut library = Damaged::new(Damage::Gauge(wrong), before);
-            let failed = tally(&mut library, calls).failed;
+            let failed = counted(&mut library, calls).failed;
             assert_eq!(failed, 1, "{wrong:?}");
         }
     }
@@ -361,7 +353,7 @@ mod tests {
                 (number, !place, bits),
                 (number, place, !bits),
             ] {
-                let failed = tally(&mut Model, &[(case.call.clone(), Some(due))]).failed;
+                let failed = counted(&mut Model, &[(case.call.clone(), Some(due))]).failed;
                 assert_eq!(failed, 1);
             }
         }

@@ -245,29 +245,22 @@ impl Wrong {
 
 #[cfg(test)]
 mod tests {
-    use super::super::{Damage, Damaged, Library, Model};
+    use super::super::{Damage, Damaged, Model};
     use super::*;
     use crate::boundary;
-    use crate::comparing::weights::{Due, WeighTally};
+    use crate::comparing::single::tests::counted;
+    use crate::comparing::single::Compared;
+    use crate::comparing::weights::Due;
     use crate::generate;
     use crate::random::Random;
 
-    fn tally(library: &mut dyn Library, calls: &[(WeighCall, Option<Due>)]) -> WeighTally {
-        let mut tally = WeighTally::default();
-        let mut patterns = Random::new(2);
-        for (call, written) in calls {
-            let _ = tally.compare(library, call, written.as_ref(), &mut patterns);
-        }
-        tally
-    }
-
     /// The model passes, and each mistake is seen, made in one answer only.
     fn all_are_seen(calls: &[(WeighCall, Option<Due>)], before: usize) {
-        let right = tally(&mut Model, calls);
-        assert_eq!((right.failed, right.never()), (0, vec![]));
+        let right = counted(&mut Model, calls);
+        assert_eq!((right.failed, right.never(WeighCall::NUMBERS)), (0, vec![]));
         for wrong in WRONGS {
             let mut library = Damaged::new(Damage::Weigh(wrong), before);
-            let failed = tally(&mut library, calls).failed;
+            let failed = counted(&mut library, calls).failed;
             assert_eq!(failed, 1, "{wrong:?}");
         }
     }
@@ -314,7 +307,7 @@ mod tests {
                     weights.iter().map(|x| x ^ 1).chain([0]).collect(),
                 ),
             ] {
-                let failed = tally(&mut Model, &[(case.call.clone(), Some(due))]).failed;
+                let failed = counted(&mut Model, &[(case.call.clone(), Some(due))]).failed;
                 assert_eq!(failed, 1);
             }
         }
