@@ -24,7 +24,7 @@ use Rattle.checks.proofs.Verdicts.{says-taken, says-refused, to6, formula-refus
 use Rattle.scaling.specs.declared.BuildAnswer.{BuildAnswer}
 use Rattle.scaling.proofs.Called.{Called}
 use Rattle.formulas.specs.declared.TranslateAnswer.{TranslateAnswer}
-use Rattle.formulas.specs.FormulaPromises.{Translates, lentFormula, RoomToTranslate, Translatable}
+use Rattle.formulas.specs.FormulaPromises.{Translates, lentFormula, RoomToTranslate, FormulaWithRoom}
 use Rattle.formulas.specs.FormulaPromises.{termsVerdict, Tells8And9, AllTaken, exponentsInto, translatedBy}
 use Rattle.formulas.proofs.Built.{range-says}
 
@@ -87,8 +87,8 @@ module _ {m n : ℕ} {matrix moduli es : List ℤ} {c : Refusal} (cs ks ts : Lis
         let b = and-both (leb roomCoefficients (length ks)) (leb roomExponents (length ts)) (formula-passed t e .room) in
         record { kept = leb-true roomCoefficients (length ks) (b .0); translated = leb-true roomExponents (length ts) (b .1) }
 
-    pub translatable : Translatable (lentProblem n matrix moduli) f ks ts
-    translatable = record {
+    pub with-room : FormulaWithRoom (lentProblem n matrix moduli) f ks ts
+    with-room = record {
       wellFormed = formula-accepted (lentProblem n matrix moduli) f (formula-passed t e .also) (exponents-passed t e);
       room = room;
     }

@@ -55,7 +55,7 @@ pub record RoomToTranslate (kept₀ translated₀ : List ℤ) : Type 0 where
   pub translated : roomExponents ≤ length translated₀
 
 -- a well-formed formula, and room for what it becomes
-pub record Translatable (P : Problem) (f : Formula) (kept₀ translated₀ : List ℤ) : Type 0 where
+pub record FormulaWithRoom (P : Problem) (f : Formula) (kept₀ translated₀ : List ℤ) : Type 0 where
   pub wellFormed : WellFormedFormula P f
   pub room : RoomToTranslate kept₀ translated₀
 

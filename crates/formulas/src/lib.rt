@@ -9,7 +9,7 @@ ghost use Rattle.rules.specs.Calls.{filled, weighOf};
 ghost use Rattle.checks.specs.Checks.{given};
 ghost use Rattle.checks.specs.Moduli.{lentProblem};
 ghost use Rattle.formulas.specs.Terms.{from, Monomial, TermOf, rowOfW, RowsOfW, NoneBeyond, written};
-ghost use Rattle.formulas.specs.FormulaPromises.{Weighs, weightsInto, Translates, lentFormula, lentTranslation, Translatable, Solved, Prepared};
+ghost use Rattle.formulas.specs.FormulaPromises.{Weighs, weightsInto, Translates, lentFormula, lentTranslation, FormulaWithRoom, Solved, Prepared};
 ghost use Rattle.formulas.specs.FormulaPromises.{judged, Tells8And9, AllTaken, exponentsInto, checkedTranslation};
 
 mod terms;
@@ -183,7 +183,7 @@ fn translate_all(
     exponents: &[i32],
 )
     requires { ⌜ Prepared (lentProblem n (now matrix) (now moduli)) q (now w) r ⌝ }
-    requires { ⌜ Translatable (lentProblem n (now matrix) (now moduli)) (lentFormula (now coefficients) (now exponents)) (now kept) (now out) ⌝ }
+    requires { ⌜ FormulaWithRoom (lentProblem n (now matrix) (now moduli)) (lentFormula (now coefficients) (now exponents)) (now kept) (now out) ⌝ }
     requires { ⌜ AllTaken (lentProblem n (now matrix) (now moduli)) (lentFormula (now coefficients) (now exponents)) ⌝ }
     ensures { λ x. ⌜ now (kept .exit) ≡ filled (now (coefficients .entry)) (now (kept .entry)) ⌝ }
     ensures { λ x. ⌜ now (out .exit) ≡ exponentsInto (lentProblem n (now (matrix .entry)) (now (moduli .entry))) (lentFormula (now (coefficients .entry)) (now (exponents .entry)))
@@ -214,7 +214,7 @@ fn translate_checked(
 ) -> TranslateAnswer
     requires { ⌜ WellFormed (lentProblem n (now matrix) (now moduli)) ⌝ }
     requires { ⌜ Solved (lentProblem n (now matrix) (now moduli)) (now w) r ⌝ }
-    requires { ⌜ Translatable (lentProblem n (now matrix) (now moduli)) (lentFormula (now coefficients) (now exponents)) (now kept) (now translated) ⌝ }
+    requires { ⌜ FormulaWithRoom (lentProblem n (now matrix) (now moduli)) (lentFormula (now coefficients) (now exponents)) (now kept) (now translated) ⌝ }
     ensures { λ x. ⌜ Translates (checkedTranslation n (now (matrix .entry)) (now (moduli .entry)) (now (coefficients .entry)) (now (exponents .entry))
         (now (kept .entry)) (now (translated .entry))) x (now (kept .exit)) (now (translated .exit)) ⌝ }
 {

@@ -11,7 +11,7 @@ use Rattle.rules.specs.Limits.{roomH, roomV, roomW, roomCoefficients, roomExpon
 use Rattle.checks.specs.Checks.{given, TellsTo6}
 use Rattle.scaling.proofs.Called.{Called}
 use Rattle.formulas.proofs.Built.{small-zeros, solved}
-use Rattle.formulas.proofs.TranslateCall.{well-formed, translatable, translate-refused, translate-refused-at-7, translate-passed}
+use Rattle.formulas.proofs.TranslateCall.{well-formed, with-room, translate-refused, translate-refused-at-7, translate-passed}
 use Rattle.formulas.proofs.translate.Statement.{statement}
 use Rattle.formulas.proofs.translate.Tie as tie
 
@@ -112,7 +112,7 @@ translate-checked-requires c κs =
       well-formed (cs f) (ks f) (ts f) (told f) (x .if1 .left),
       (
         solved (told f) (x .if1 .left) (called b) (y .if2 .left) (w-long b) (small-zeros roomW),
-        translatable (cs f) (ks f) (ts f) (told f) (x .if1 .left),
+        with-room (cs f) (ks f) (ts f) (told f) (x .if1 .left),
       ),
     )
 
