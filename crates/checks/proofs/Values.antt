@@ -6,7 +6,7 @@ use Prim.Native.Nat.{zero, suc, _^_, _<_, _≤_}
 use native.Mathlib.Omega.{arith}
 use lib.Dec.{T, eqb}
 use lib.IntN.{ℤ, pos, negsuc, natAbs, negℤ, _+ℤ_, _-ℤ_, _*ℤ_}
-use lib.Signed.{_≤ℤ_, _<ℤ_, mag, ltZ, ltZ-yes, ltZ-no, quotZ, nonNeg}
+use lib.Signed.{mag, ltZ, quotZ, nonNeg}
 use mir.Syntax.{Width, w32, w64}
 use mir.Val.{SFits, toZ, ofZ, hbits}
 use mir.Facts.{toZ-ofZ}
@@ -55,13 +55,6 @@ neg-fits a h = fits64 (negℤ a) (omega (arith, abs-neg a))
 
 pub sub-fits : (a b : ℤ) → natAbs a ≤ 4294967296 → natAbs b ≤ 4294967296 → SFits w64 (a -ℤ b)
 sub-fits a b h g = fits64 (a -ℤ b) (omega (arith, abs-sub a b))
-
--- ---- what a test that was made says
-pub is-lt : (a b : ℤ) → ltZ a b ≡ true → a <ℤ b
-is-lt a b e = ltZ-yes (rw e tt)
-
-pub is-le : (a b : ℤ) → ltZ a b ≡ false → b ≤ℤ a
-is-le a b e = ltZ-no (rw e tt)
 
 -- ---- the two tests of `beyond`
 pub beyond-low : (z : ℤ) → ltZ z (negsuc 2147483646) ≡ true → true ≡ beyond z

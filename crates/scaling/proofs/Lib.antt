@@ -1,6 +1,6 @@
 -- The proofs of the functions stand beside this file, in folders that mirror src/. The general modules, each standing on those above it:
 -- ---- the column steps
---     Values            single values: what is stored, the floored quotient by signs, a quotient that can be negated
+--     Values            single values: what is stored, a quotient that can be negated
 --     Places            places in a flat list: which are apart, which are in it, where a turned entry stood
 --     StridedContents   what the lists of specs/Strided hold after their turns
 --     StridedLines      the lines of a flat list before and after a loop, and what an addition's flag says

@@ -1,17 +1,13 @@
--- Single values: what is stored, the floored quotient by signs, and a quotient of two entries that can be negated.
+-- Single values: what is stored, and a quotient of two entries that can be negated.
 use mathlib.Core.Path.{_≡_, refl, ap, ap₂, _∙_}
 use mathlib.Core.Bool.{Bool, true, false, cond}
-use Prim.Native.Nat.{ℕ, zero, suc, _/_, _^_, _<_, _≤_}
-use native.Mathlib.Nat.{zero-div}
+use Prim.Native.Nat.{_^_, _<_, _≤_}
 use native.Mathlib.Omega.{arith}
-use lib.IntN.{ℤ, pos, negsuc, natAbs, negℤ, _-ℤ_}
-use lib.Signed.{_≤ℤ_, _<ℤ_, mag, quotZ}
+use lib.IntN.{ℤ, pos, natAbs}
+use lib.Signed.{mag}
 use mir.Syntax.{w32, w64}
 use mir.Val.{toZ, ofZ, hbits}
 use mir.Facts.{toZ-ofZ}
-use Rattle.whole.specs.Division.{floorZ}
-use Rattle.whole.proofs.Order.{zarith, -is}
-use Rattle.whole.proofs.Signs.{less-pos, less-neg}
 use Rattle.rules.specs.Limits.{M, beyond}
 use Rattle.checks.proofs.Values.{abs32, held, within, not-beyond}
 use Rattle.scaling.specs.Strided.{keep}
@@ -29,31 +25,6 @@ keep-small z = go (beyond z) refl
     go : (b : Bool) → beyond z ≡ b → natAbs (cond b (pos 0) z) ≤ M
     go true e = omega arith
     go false e = within z e
-
--- ---- the floored quotient
-pub floor-neg-pos : (a b : ℤ) → pos 0 <ℤ b → a <ℤ pos 0 → negsuc 0 -ℤ quotZ (negsuc 0 -ℤ a) b ≡ floorZ a b
-floor-neg-pos (pos a) b h l = absurd (omega zarith)
-floor-neg-pos (negsuc a) (pos b) h l = rw (less-neg a) (less-pos (a / b))
-floor-neg-pos (negsuc a) (negsuc b) h l = absurd (omega zarith)
-
-pub floor-pos-pos : (a b : ℤ) → pos 0 <ℤ b → pos 0 ≤ℤ a → quotZ a b ≡ floorZ a b
-floor-pos-pos (pos a) (pos b) h l = refl
-floor-pos-pos (pos a) (negsuc b) h l = absurd (omega zarith)
-floor-pos-pos (negsuc a) b h l = absurd (omega zarith)
-
-pub floor-pos-neg : (a b : ℤ) → b <ℤ pos 0 → pos 0 <ℤ a → negsuc 0 -ℤ quotZ (a -ℤ pos 1) (negℤ b) ≡ floorZ a b
-floor-pos-neg a (pos b) h l = absurd (omega zarith)
-floor-pos-neg (pos zero) (negsuc b) h l = absurd (omega zarith)
-floor-pos-neg (pos (suc a)) (negsuc b) h l =
-    let e : pos (suc a) -ℤ pos 1 ≡ pos a = omega (zarith, -is (pos (suc a)) (pos 1)) in
-    ap (λ (z : ℤ). negsuc 0 -ℤ quotZ z (pos (suc b))) e ∙ less-pos (a / suc b)
-floor-pos-neg (negsuc a) (negsuc b) h l = absurd (omega zarith)
-
-pub floor-neg-neg : (a b : ℤ) → b <ℤ pos 0 → a ≤ℤ pos 0 → quotZ a b ≡ floorZ a b
-floor-neg-neg a (pos b) h l = absurd (omega zarith)
-floor-neg-neg (pos zero) (negsuc b) h l = ap (λ (k : ℕ). negℤ (pos k)) (zero-div (suc b))
-floor-neg-neg (pos (suc a)) (negsuc b) h l = absurd (omega zarith)
-floor-neg-neg (negsuc a) (negsuc b) h l = refl
 
 -- ---- a quotient of two entries, by either division, as it is answered: z
 pub record Quotient (div : ℤ → ℤ → ℤ) (a b z : ℤ) : Type 0 where

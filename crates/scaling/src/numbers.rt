@@ -68,16 +68,16 @@ pub fn cut(x: i32, y: i32) -> i64
     x as i64 / y as i64
 }
 
-// The floored quotient of x by y, by their signs.
+// The floored quotient of x by y: the one cut toward zero, lowered by one if something remains and has another sign than y.
 pub fn floor(x: i32, y: i32) -> i64
     requires { ⌜ 0 < natAbs y ⌝ }
     ensures { λ r. ⌜ r ≡ floorZ x y ⌝ }
 {
-    let a = x as i64;
-    let b = y as i64;
-    if 0 < b {
-        if a < 0 { -1 - (-1 - a) / b } else { a / b }
+    let q = cut(x, y);
+    let r = x as i64 % y as i64;
+    if r != 0 && (r < 0) != (y < 0) {
+        q - 1
     } else {
-        if 0 < a { -1 - (a - 1) / (-b) } else { a / b }
+        q
     }
 }
