@@ -7,7 +7,7 @@
 #
 #     include/glaukemis.h
 #     lib/libglaukemis.a
-#     lib/libglaukemis.so -> libglaukemis.so.1 -> libglaukemis.so.1.0.0
+#     lib/libglaukemis.so -> libglaukemis.so.1 -> libglaukemis.so.1.0.1
 #     lib/pkgconfig/glaukemis.pc
 #
 # and below $DESTDIR$PREFIX where DESTDIR is set, as for a package. Both libraries have the header's calls and no other name.

@@ -23,9 +23,9 @@
  * THREADS. The calls keep no state, take no memory but the stack, and always return. Several threads may call at once, so long as none
  * writes a buffer that another one reads or writes.
  *
- * STACK. 1 MB is enough for every call on every input. glaukemis_translate takes most: 93,104 bytes where no row takes more than one
+ * STACK. 1 MB is enough for every call on every input. glaukemis_translate takes most: 93,088 bytes where no row takes more than one
  * repetition of (A), R7.8 of the rules, and 10,912 more for each further one in the deepest row. There are at most 66, as is proved, and
- * with them it would take 802,384. The deepest problem that is known has 50, and takes 627,792. glaukemis_weigh, which makes no build,
+ * with them it would take 802,368. The deepest problem that is known has 50, and takes 627,776. glaukemis_weigh, which makes no build,
  * takes 56. (The bytes were measured, by docs/stack.sh, of the library for x86-64.)
  */
 #ifndef GLAUKEMIS_H
@@ -39,10 +39,10 @@ extern "C" {
 #endif
 
 /* The version of this header and its library; docs/DECISIONS.md says what changes each part. */
-#define GLAUKEMIS_VERSION "1.0.0"
+#define GLAUKEMIS_VERSION "1.0.1"
 #define GLAUKEMIS_VERSION_MAJOR 1
 #define GLAUKEMIS_VERSION_MINOR 0
-#define GLAUKEMIS_VERSION_PATCH 0
+#define GLAUKEMIS_VERSION_PATCH 1
 
 /* The limits. */
 #define GLAUKEMIS_MAX_ROWS 8         /* m is 1 to 8 */

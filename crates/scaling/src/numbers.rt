@@ -68,7 +68,7 @@ pub fn cut(x: i32, y: i32) -> i64
     x as i64 / y as i64
 }
 
-// The floored quotient of x by y: the one cut toward zero, lowered by one if something remains and has another sign than y.
+// The floored quotient of x by y: the one cut toward zero, lowered by one if the remainder is not 0 and has another sign than y.
 pub fn floor(x: i32, y: i32) -> i64
     requires { ⌜ 0 < natAbs y ⌝ }
     ensures { λ r. ⌜ r ≡ floorZ x y ⌝ }

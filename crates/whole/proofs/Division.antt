@@ -6,11 +6,10 @@ use native.Mathlib.Omega.{arith}
 use native.Mathlib.Nat.{div-add-mod', mod-lt, mod-le, mod-eq-sub-mod, le-of-dvd, dvd-of-mod-eq-zero, div-le-self, div-eq-of-lt-le, zero-div, zero-mod, mul-mod-left}
 use borrow.Author.Tests.{le-ltb, ne-eqb}
 use lib.Dec.{eqb}
-use lib.IntN.{ℤ, pos, negsuc, negℤ, natAbs, _+ℤ_, _*ℤ_, _-ℤ_, +ℤ-idr, +ℤ-comm, negℤ-negℤ}
+use lib.IntN.{ℤ, pos, negsuc, negℤ, natAbs, _+ℤ_, _*ℤ_, _-ℤ_, +ℤ-idr, negℤ-negℤ}
 use lib.Signed.{_≤ℤ_, _<ℤ_, ltZ, quotZ, remZ}
 use Rattle.whole.specs.Division.{floorZ}
-use Rattle.whole.proofs.Order.{zarith, -is, P-mul, N-mul, abs-neg, abs-mul, natAbs-zero}
-use Rattle.whole.proofs.Signs.{less-pos}
+use Rattle.whole.proofs.Order.{zarith, -is, P-neg, N-neg, P-mul, N-mul, abs-neg, abs-mul, natAbs-zero}
 use Rattle.whole.proofs.Ring.{negℤ-*ℤ}
 use Rattle.whole.proofs.Solver.{_⊕_, _⊗_, ⊝_, _≟_, ring₃}
 
@@ -97,17 +96,13 @@ floor-le (pos (suc a)) (negsuc b) = omega (arith, div-le-self a (suc b))
 floor-le (negsuc a) (negsuc b) = div-le-self (suc a) (suc b)
 
 -- ---- rounded down, from what is cut toward zero
--- -(a + 1) by b, rounded down: the opposite of a + 1 by b, and one less where m, what remains, is not 0
-floor-opposite : (a b m : ℕ) → 0 < b → suc a % b ≡ m → negsuc (a / b) ≡ cond (not (eqb m 0)) (negℤ (pos (suc a / b)) -ℤ pos 1) (negℤ (pos (suc a / b)))
-floor-opposite a b zero h e = go (suc a / b) (omega (arith, div-add-mod' (suc a) b))
-  where
-    go : (q : ℕ) → q * b ≡ suc a → negsuc (a / b) ≡ negℤ (pos q)
-    go zero e = absurd (omega arith)
-    go (suc q) e = ap negsuc (div-eq-of-lt-le b (omega arith) (omega arith))
-floor-opposite a b (suc m) h e =
-    let d = div-add-mod' (suc a) b in
-    let same : a / b ≡ suc a / b = div-eq-of-lt-le b (omega arith) (omega (arith, mod-lt (suc a) h)) in
-    rw (ne-eqb (suc m) 0 (λ z. omega arith), same) (sym (+ℤ-comm (negℤ (pos (suc a / b))) (negsuc 0) ∙ less-pos (suc a / b)))
+-- -(a + 1) by b, rounded down, where a + 1 is q · b + m: -q, and one less where m is not 0
+floor-opposite : (a b q m : ℕ) → q * b + m ≡ suc a → m < b → negsuc (a / b) ≡ cond (not (eqb m 0)) (negℤ (pos q) -ℤ pos 1) (negℤ (pos q))
+floor-opposite a b zero zero e l = absurd (omega arith)
+floor-opposite a b (suc q) zero e l = ap negsuc (div-eq-of-lt-le b (omega arith) (omega arith))
+floor-opposite a b q (suc m) e l =
+    let same : a / b ≡ q = div-eq-of-lt-le b (omega arith) (omega arith) in
+    rw (ne-eqb (suc m) 0 (λ z. omega arith), same) (omega (zarith, -is (negℤ (pos q)) (pos 1), P-neg (pos q), N-neg (pos q)))
 
 pos-not-below : (n : ℕ) → ltZ (pos n) (pos 0) ≡ false
 pos-not-below n = le-ltb n 0 (omega arith)
@@ -118,11 +113,11 @@ opposite-differs zero s = refl
 opposite-differs (suc m) true = refl
 opposite-differs (suc m) false = refl
 
--- it is what is cut toward zero, less one where the remainder r is not 0 and has another sign than b
+-- a by b rounded down is a by b cut toward zero, less one where the remainder r is not 0 and has another sign than b
 pub floor-cut : (a b : ℤ) → 0 < natAbs b
     → let r = remZ a b in floorZ a b ≡ cond (not (eqb (natAbs r) 0) && not (Bool·beq (ltZ r (pos 0)) (ltZ b (pos 0)))) (quotZ a b -ℤ pos 1) (quotZ a b)
 floor-cut (pos a) (pos b) h = simp (pos-not-below, and-false)
-floor-cut (negsuc a) (pos b) h = rw (opposite-differs (suc a % b), pos-not-below b, and-true) (floor-opposite a b (suc a % b) h refl)
+floor-cut (negsuc a) (pos b) h = rw (opposite-differs (suc a % b), pos-not-below b, and-true) (floor-opposite a b (suc a / b) (suc a % b) (div-add-mod' (suc a) b) (mod-lt (suc a) h))
 floor-cut (pos zero) (negsuc b) h = simp (zero-mod, zero-div)
-floor-cut (pos (suc a)) (negsuc b) h = simp (pos-not-below, and-true) (floor-opposite a (suc b) (suc a % suc b) h refl)
+floor-cut (pos (suc a)) (negsuc b) h = simp (pos-not-below, and-true) (floor-opposite a (suc b) (suc a / suc b) (suc a % suc b) (div-add-mod' (suc a) (suc b)) (mod-lt (suc a) h))
 floor-cut (negsuc a) (negsuc b) h = rw (opposite-differs (suc a % suc b), and-false)

@@ -11,10 +11,10 @@ use mir.Val.{SFits, toZ, ofZ, bits, hbits}
 use mir.Facts.{toZ-pos, toZ-ofZ}
 use Rattle.whole.proofs.Order.{zarith, -is}
 
-pub less-pos : (k : ℕ) → negsuc 0 -ℤ pos k ≡ negsuc k
+less-pos : (k : ℕ) → negsuc 0 -ℤ pos k ≡ negsuc k
 less-pos k = omega (zarith, -is (negsuc 0) (pos k))
 
-pub less-neg : (k : ℕ) → negsuc 0 -ℤ negsuc k ≡ pos k
+less-neg : (k : ℕ) → negsuc 0 -ℤ negsuc k ≡ pos k
 less-neg k = omega (zarith, -is (negsuc 0) (negsuc k))
 
 -- ---- from bits, of any width, in their upper half: -1 - k, where k is what x lacks to all ones

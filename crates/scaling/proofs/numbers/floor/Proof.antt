@@ -54,25 +54,26 @@ cast-r-2 c = cast-fits (y (c .before)) (c .before .fits .y)
 rem-r : tie.Need-rem-r
 rem-r c = let s = c .before in divides (x s) (y s) (s .fits .x) (s .fits .y) (s .pre)
 
-cut-off : (c : tie.After-cut) → Quotient quotZ (x (c .before)) (y (c .before)) (c .cut .result)
-cut-off c = let s = c .before in quotient-of quot-le (x s) (y s) (s .fits .x .sfits) (s .fits .y .sfits) (c .cut .ok) (c .cut .ensures)
+divided : (c : tie.After-cut) → Quotient quotZ (x (c .before)) (y (c .before)) (c .cut .result)
+divided c = let s = c .before in quotient-of quot-le (x s) (y s) (s .fits .x .sfits) (s .fits .y .sfits) (c .cut .ok) (c .cut .ensures)
 
+-- whatever small number is taken off: a wrong one is refused for what is returned
 sub-result : tie.Need-sub-result
 sub-result c =
     let a = c .before .before in
-    let h : natAbs (toZ w64 (ofZ w64 (a .cut .result))) ≤ 4294967296 = omega (arith, cut-off a .small) in
+    let h : natAbs (toZ w64 (ofZ w64 (a .cut .result))) ≤ 4294967296 = omega (arith, divided a .small) in
     search (sub-fits, needs)
 
 returns : tie.Need-returns
 returns c =
     let a = c .before .before in
     let s = a .before in
-    toZ-ofZ (sub-result c) ∙ rw (cut-off a .is) (by-tests s (ne-eqb (r s) 0 (c .before .if1 .taken)) (c .if2 .taken))
+    toZ-ofZ (sub-result c) ∙ rw (divided a .is) (by-tests s (ne-eqb (r s) 0 (c .before .if1 .taken)) (c .if2 .taken))
 
 returns-2 : tie.Need-returns-2
 returns-2 c =
     let s = c .before .before in
-    rw (cut-off (c .before) .is)
+    rw (divided (c .before) .is)
     (⊎-elim
     (λ w. by-tests s (ne-eqb (r s) 0 (w .0 .taken)) (w .1 .left))
     (λ w. by-tests s (eq-eqb (r s) 0 (w .left)) refl)
