@@ -1,5 +1,7 @@
 // The bench's C calls: the build and the translation over bytes, each number in four of them, big-endian two's complement; and every call over numbers
 // as they are.
+#![tactic(auto)]
+
 ghost use Rattle.rules.specs.Bench.{bench_build_of, bench_translate_of};
 ghost use Rattle.rules.specs.Calls.{build_of, weigh_of};
 ghost use Rattle.rules.specs.Gauges.{lent_readings, gauge_of, gauge_answer};

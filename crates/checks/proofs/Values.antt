@@ -31,7 +31,7 @@ widens z f = fits64 z (omega (arith, abs32 z f))
 
 -- an entry of a list that was read, by what the read tells of it
 pub held : (z : ℤ) → mag z < 2 ^ hbits w32 → to_z w32 (of_z w32 z) ≡ z
-held z g = to_z-of_z (record { sfits = g })
+held z g = to_z-of_z {w = w32} (record { sfits = g })
 
 -- a number of 32 bits, read into 64
 pub cast_fits : (z : ℤ) → SFits w32 z → SFits w64 (to_z w32 (of_z w32 z))

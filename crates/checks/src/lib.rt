@@ -1,5 +1,7 @@
 // Checks 1 to 5, with which every call begins that takes a problem, and 6 for those that take exponents; the rows with a modulus. No public function has
 // a condition on its caller.
+#![tactic(auto)]
+
 ghost use Rattle.std.specs.Prelude.{◌≡◌, ◌&&◌, ◌<◌};
 ghost use Rattle.rules.specs.Limits as limits;
 ghost use Rattle.checks.specs.Checks.{TellsTo5, TellsTo6};
@@ -39,14 +41,14 @@ const MOST_EXPONENT: i32 = 10000;
 const LEAST_EXPONENT: i32 = -10000;
 
 // A number and a place; the number 0 says that nothing was found.
-#[derive(Drop)]
+#[derive(Clone, Copy)]
 pub struct Refusal {
     pub number: u32,
     pub place: u32,
 }
 
 // The rows with a modulus, from the top row down, and their count s.
-#[derive(Drop)]
+#[derive(Clone, Copy)]
 pub struct ModulusRows {
     pub rows: [usize; 8],
     pub s: usize,

@@ -4,7 +4,7 @@ use mathlib.Core.Logic.{◌≢◌}
 use mathlib.Core.Bool.{Bool, ◌&&◌, and-true}
 use mathlib.Core.List.{List}
 use Prim.Native.Nat.{ℕ, ◌≤◌}
-use native.Mathlib.Nat.{one_mul}
+use native.Mathlib.Nat.{one-mul}
 use native.Mathlib.Omega.{arith}
 use lib.Dec.{leb, eqb}
 use lib.ListN.{length}
@@ -23,7 +23,7 @@ use Rattle.formulas.specs.FormulaPromises.{Weighs, weights_into}
 
 -- a monomial is one term
 one_term : (n exponents : ℕ) → terms_fit n 1 exponents ≡ eqb exponents n
-one_term n k = ap (λ (x : ℕ). eqb k x && leb 1 most_terms) (one_mul n) ∙ and-true (eqb k n)
+one_term n k = ap (λ (x : ℕ). eqb k x && leb 1 most_terms) (one-mul n) ∙ and-true (eqb k n)
 
 module _ {m n : ℕ} {matrix moduli es : List ℤ} {c : Refusal} (out : List ℤ) (t : TellsTo6 m n matrix moduli 1 es (leb room_weights (length out)) c) where
   abbrev P : Problem

@@ -1,4 +1,6 @@
 // The weights of a monomial, and the translation of a formula.
+#![tactic(auto)]
+
 ghost use Rattle.std.specs.Prelude.{◌≡◌, ◌≤◌, ◌+◌, ◌-◌, length};
 ghost use Rattle.rules.specs.Limits.{room_weights};
 ghost use Rattle.rules.specs.Problem.{WellFormed};

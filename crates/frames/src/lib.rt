@@ -1,4 +1,6 @@
 // The program (section 9 of the rules): from the bytes of its input to those of its output.
+#![tactic(auto)]
+
 ghost use Rattle.rules.specs.Frames.{program};
 ghost use Rattle.frames.specs.Output.{Shows};
 

@@ -1,4 +1,6 @@
 // One group of a problem, worked out from gauge readings (order 2).
+#![tactic(auto)]
+
 ghost use Rattle.std.specs.Prelude.{◌≡◌, ◌≤◌};
 ghost use Rattle.rules.specs.Gauges.{read, nought, refusal, gauge_of};
 ghost use Rattle.checks.specs.Checks.{given};

@@ -1,4 +1,6 @@
 // Runs the known problems (R10.1 to R10.13), in their order, and prints what build, weigh and translate answer.
+#![tactic(auto)]
+
 use formulas::{translate, weigh};
 use scaling::build;
 

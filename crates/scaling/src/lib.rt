@@ -1,4 +1,6 @@
 // Glaukemis: the Hermite form, the normal multiplier and its inverse.
+#![tactic(auto)]
+
 ghost use Rattle.std.specs.Prelude.{◌≡◌, ◌≤◌, length, take};
 ghost use Rattle.rules.specs.Problem.{WellFormed};
 ghost use Rattle.rules.specs.Calls.{filled, build_of};

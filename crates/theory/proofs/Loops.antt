@@ -45,11 +45,11 @@ module _ (test : ℕ → Bool) (lo : ℕ) where
 
   -- nothing so far, and not here
   pub first_more : (c : ℕ) → lo ≤ c → first test lo c ≡ none → test c ≡ false → first test lo (suc c) ≡ none
-  first_more c h e t = first_step c h ∙ ap (or_at test c) e ∙ rw t
+  first_more c h e t = first_step c h ∙ ap (or_at test c) e ∙ rw (t, or_at)
 
   -- nothing so far, and here
   pub first_hit : (c hi : ℕ) → lo ≤ c → c < hi → first test lo c ≡ none → test c ≡ true → first test lo hi ≡ found c
-  first_hit c hi h l e t = first_stop c (suc c) hi l (omega arith) (first_step c h ∙ ap (or_at test c) e ∙ rw t)
+  first_hit c hi h l e t = first_stop c (suc c) hi l (omega arith) (first_step c h ∙ ap (or_at test c) e ∙ rw (t, or_at))
 
 -- ---- the last, from the end down
 pub last_end : (test : ℕ → Bool) → last test 0 ≡ none

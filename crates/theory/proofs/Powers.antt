@@ -2,7 +2,7 @@
 -- Nothing is asked of the two themselves, so subnormal ones are included.
 use mathlib.Core.Path.{◌≡◌, refl, ap, ◌∙◌, subst}
 use Prim.Native.Nat.{ℕ, zero, suc, ◌+◌, ◌-◌, ◌*◌, ◌%◌, ◌^◌, ◌≤◌, ◌<◌}
-use native.Mathlib.Nat.{mul_one, one_mul, mul_assoc, mul-pos, pow-suc}
+use native.Mathlib.Nat.{mul-one, one-mul, mul_assoc, mul-pos, pow-suc}
 use native.Mathlib.Omega.{arith}
 use mathlib.Core.Bool.{Bool, true, false, ◌&&◌}
 use lib.IntN.{ℤ, pos, negsuc, neg_ℤ, ◌+ℤ◌, ◌-ℤ◌}
@@ -78,14 +78,14 @@ normal_held c h = let l = h.low in let g = h.high in record { low = omega zarith
 counted : (c : ℤ) (l : ℕ) → N c ≤ l → up c * 2 ^ l ≡ 1 * 2 ^ (P c + l - N c) * down c
 counted c l h =
     let e : P c + l ≡ P c + l - N c + N c = omega arith in
-    rw (up_is c, down_is c, one_mul (2 ^ (P c + l - N c)), ← pow-add 2 (P c) l, ← pow-add 2 (P c + l - N c) (N c), ← e)
+    rw (up_is c, down_is c, one-mul (2 ^ (P c + l - N c)), ← pow-add 2 (P c) l, ← pow-add 2 (P c + l - N c) (N c), ← e)
 
 round_two : (c : ℤ) → Held c → round binary64 false (up c) (down c) ≡ two c
 round_two c h =
     let j = P c + 1074 - N c in
     let small : j < 2098 = omega (zarith, one_zero c) in
     is_two (round binary64 false (up c) (down c)) c (round-fits binary64 false (up c) (down c))
-    (round_exact binary64 false (up c) (down c) 1 j (down_pos c) (pow-lt {i = 0} {j = 53} (omega arith)) (rw (one_mul (2 ^ j)) (pow-lt small))
+    (round_exact binary64 false (up c) (down c) 1 j (down_pos c) (pow-lt {i = 0} {j = 53} (omega arith)) (rw (one-mul (2 ^ j)) (pow-lt small))
     (counted c 1074 (omega (zarith, one_zero c))))
 
 -- ---- these are the powers of two that binary64 has
@@ -114,7 +114,7 @@ two_fits c h =
     lower k l = rw (down_is c) (pow_mono l)
 
     upper : (k : ℕ) → P c < k + N c → 1 * up c < 2 ^ k * down c
-    upper k l = rw (one_mul (up c), up_is c, down_is c, ← pow-add 2 k (N c)) (pow-lt l)
+    upper k l = rw (one-mul (up c), up_is c, down_is c, ← pow-add 2 k (N c)) (pow-lt l)
 
 pub fits-held : (c : ℤ) → T (fits binary64 (two c)) → Held c
 unfolding fits
@@ -127,7 +127,7 @@ fits-held c t =
     lower k l = power_le (N c) k (rw (← down_is c) l)
 
     upper : (k : ℕ) → 1 * up c < 2 ^ k * down c → P c < k + N c
-    upper k l = power_lt (P c) (k + N c) (rw (pow-add 2 k (N c), ← down_is c, ← up_is c, ← one_mul (up c)) l)
+    upper k l = power_lt (P c) (k + N c) (rw (pow-add 2 k (N c), ← down_is c, ← up_is c, ← one-mul (up c)) l)
 
 -- ---- products and quotients
 crossed : (i j k i' j' k' : ℕ) → i + j + k ≡ k' + (i' + j') → 2 ^ i * 2 ^ j * 2 ^ k ≡ 2 ^ k' * (2 ^ i' * 2 ^ j')
@@ -139,14 +139,14 @@ unfolding mul
 mul_round a b =
     let c = a +ℤ b in
     round_same binary64 false (1 * up a * (1 * up b)) (down a * down b) (up c) (down c) (mul-pos (down_pos a) (down_pos b)) (down_pos c)
-    (simp (up_is, down_is, one_mul) (crossed (P a) (P b) (N c) (N a) (N b) (P c) (omega (arith, +is a b))))
+    (simp (up_is, down_is, one-mul) (crossed (P a) (P b) (N c) (N a) (N b) (P c) (omega (arith, +is a b))))
 
 div_round : (a b : ℤ) → div binary64 (two a) (two b) ≡ round binary64 false (up (a -ℤ b)) (down (a -ℤ b))
 unfolding div
 div_round a b =
     let c = a -ℤ b in
     round_same binary64 false (1 * up a * down b) (1 * up b * down a) (up c) (down c) (mul-pos (mul-pos (pow_pos 0) (up_pos b)) (down_pos a)) (down_pos c)
-    (simp (up_is, down_is, one_mul) (crossed (P a) (N b) (N c) (P b) (N a) (P c) (omega (arith, -is a b))))
+    (simp (up_is, down_is, one-mul) (crossed (P a) (N b) (N c) (P b) (N a) (P c) (omega (arith, -is a b))))
 
 pub mul-two : (a b : ℤ) → Held (a +ℤ b) → mul binary64 (two a) (two b) ≡ two (a +ℤ b)
 mul-two a b h = mul_round a b ∙ round_two (a +ℤ b) h
@@ -167,7 +167,7 @@ not-above : (c : ℤ) → T (le (round binary64 false (up c) (down c)) (two (pos
 not-above c t = go (lt_z? (pos 1023) c)
   where
     grown : (k : ℕ) → k + N c ≤ P c → 2 ^ k * down c ≤ up c * 1
-    grown k h = rw (up_is c, down_is c, mul_one (2 ^ P c), ← pow-add 2 k (N c)) (pow_mono h)
+    grown k h = rw (up_is c, down_is c, mul-one (2 ^ P c), ← pow-add 2 k (N c)) (pow_mono h)
 
     go : {b : Bool} → Test (pos 1023 <ℤ c) (c ≤ℤ pos 1023) b → c ≤ℤ pos 1023
     go (pass h) =
@@ -184,7 +184,7 @@ not-below : (c : ℤ) → T (le (two (neg_ℤ (pos 1022))) (round binary64 false
 not-below c t = go (lt_z? c (negsuc 1021))
   where
     shrunk : (k : ℕ) → P c + k ≤ N c → up c * 2 ^ k ≤ 1 * down c
-    shrunk k h = rw (up_is c, down_is c, one_mul (2 ^ N c), ← pow-add 2 (P c) k) (pow_mono h)
+    shrunk k h = rw (up_is c, down_is c, one-mul (2 ^ N c), ← pow-add 2 (P c) k) (pow_mono h)
 
     r : Float
     r = round binary64 false (up c) (down c)
