@@ -5,7 +5,7 @@ ghost use Rattle.rules.specs.Bytes.{bytes_of};
 ghost use Rattle.rules.specs.Calls.{filled};
 ghost use Rattle.bench.specs.Words.{Decoded, room_of, Put};
 
-use bytes::{four_bytes, long};
+use byte_numbers::{four_bytes, long};
 
 // The number in four bytes.
 fn get(s: &[u8], at: usize) -> i32

@@ -56,7 +56,7 @@ pub fn short(text: &[u8], at: usize) -> i32
 {
     let a = byte(text, at);
     let b = byte(text, at + 2);
-    bytes::short(a, b)
+    byte_numbers::short(a, b)
 }
 
 // The number that four bytes, eight digits, write.
@@ -69,7 +69,7 @@ pub fn long(text: &[u8], at: usize) -> i32
     let b = byte(text, at + 2);
     let c = byte(text, at + 4);
     let d = byte(text, at + 6);
-    bytes::long(a, b, c, d)
+    byte_numbers::long(a, b, c, d)
 }
 
 // Whether a line of `count` digits and a newline, its first byte `kind`, starts at `at`.

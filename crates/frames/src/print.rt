@@ -6,7 +6,7 @@ ghost use Rattle.rules.specs.Frames.{digit_of, row_lines, term_lines, refusal_li
 ghost use Rattle.rules.specs.Frames as frames;
 ghost use Rattle.frames.specs.Output.{Wrote, sizes_text, row_text, term_text};
 
-use bytes::{four_bytes, low};
+use byte_numbers::{four_bytes, low};
 
 // The digit of a number below 16.
 fn digit(x: u8) -> u8

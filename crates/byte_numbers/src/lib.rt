@@ -40,12 +40,14 @@ fn bits(z: i32) -> u64
 }
 
 // The number in two bytes, and that in four.
+#[tactic(auto, unfolding(rules::specs::Bytes::short))]
 pub fn short(a: u8, b: u8) -> i32
     ensures { result ≡ rules.short (a ∷ b ∷ []) }
 {
     signed16(256 * a as u32 + b as u32)
 }
 
+#[tactic(auto, unfolding(rules::specs::Bytes::long))]
 pub fn long(a: u8, b: u8, c: u8, d: u8) -> i32
     ensures { result ≡ rules.long (a ∷ b ∷ c ∷ d ∷ []) }
 {
@@ -60,6 +62,7 @@ pub fn low(x: u64) -> u8
 }
 
 // The four bytes of a number.
+#[tactic(auto, unfolding(rules::specs::Bytes::bytes_of))]
 pub fn four_bytes(z: i32) -> [u8; 4]
     ensures { result ≡ rules.bytes_of (z ∷ []) }
 {
