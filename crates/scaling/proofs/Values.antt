@@ -34,5 +34,5 @@ pub record Quotient (div : ℤ → ℤ → ℤ) (a b z : ℤ) : Type 0 where
 pub quotient_of : {div : ℤ → ℤ → ℤ} → ((a b : ℤ) → nat_abs (div a b) ≤ nat_abs a) → (a b : ℤ) {z : ℤ}
     → mag a < 2 ^ hbits w32 → mag b < 2 ^ hbits w32 → mag z < 2 ^ hbits w64 → z ≡ div (to_z w32 (of_z w32 a)) (to_z w32 (of_z w32 b)) → Quotient div a b z
 quotient_of {div} le a b {z} f g h e =
-    let i : to_z w64 (of_z w64 z) ≡ div a b = to_z-of_z (record { sfits = h }) ∙ e ∙ ap₂ div (held a f) (held b g) in
+    let i : to_z w64 (of_z w64 z) ≡ div a b = to_z-of_z {w = w64} (record { sfits = h }) ∙ e ∙ ap₂ div (held a f) (held b g) in
     record { is = i; small = rw i (omega (arith, le a b, abs32 a (record { sfits = f }))) }
