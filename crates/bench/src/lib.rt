@@ -165,7 +165,7 @@ pub extern "C" fn glaukemis_translate_numbers(
 // What a group from readings answers, since an enum does not cross to C: the number 0 with the value; or a refusal's number and place with the reading
 // that it carries.
 #[repr(C)]
-#[derive(Drop)]
+#[derive(Clone, Copy)]
 pub struct GaugeAnswer {
     pub number: u32,
     pub place: u32,

@@ -22,7 +22,7 @@ use terms::Exponents;
 
 // What weighing answers: the number 0; or a refusal's number and place.
 #[repr(C)]
-#[derive(Drop)]
+#[derive(Clone, Copy)]
 pub struct WeighAnswer {
     pub number: u32,
     pub place: u32,
@@ -30,7 +30,7 @@ pub struct WeighAnswer {
 
 // What a translation answers: the number 0 with the count d of groups; or a refusal's number and place.
 #[repr(C)]
-#[derive(Drop)]
+#[derive(Clone, Copy)]
 pub struct TranslateAnswer {
     pub number: u32,
     pub place: u32,

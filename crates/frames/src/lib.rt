@@ -13,7 +13,7 @@ mod solve;
 pub const TEXT_BYTES: usize = 20480;
 
 // A text: the first `len` bytes, and zeros after them.
-#[derive(Drop)]
+#[derive(Clone, Copy)]
 pub struct Text {
     pub bytes: [u8; TEXT_BYTES],
     pub len: usize,

@@ -11,14 +11,14 @@ mod values;
 use checks::{ROOM_H, ROOM_V, ROOM_W};
 
 // A set of readings: up to sixteen values, and how many there are.
-#[derive(Drop)]
+#[derive(Clone, Copy)]
 pub struct Readings {
     pub values: [f64; 16],
     pub count: u32,
 }
 
 // The answer for one group: its value, or a refusal's number and place with the reading that it carries.
-#[derive(Drop)]
+#[derive(Clone, Copy)]
 pub enum Gauged {
     Value(f64),
     Refused {

@@ -18,7 +18,7 @@ mod work;
 
 // What a build answers: the number 0 with the rank, how many rows have a modulus and how many steps it took; or a refusal's number and place.
 #[repr(C)]
-#[derive(Drop)]
+#[derive(Clone, Copy)]
 pub struct BuildAnswer {
     pub number: u32,
     pub place: u32,
