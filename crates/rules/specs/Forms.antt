@@ -33,7 +33,7 @@ pub record Normal (m N r : ℕ) (C H U W : Matrix) : Type 0 where
   -- the pivot rows of H, and those of the last d = N - r columns of V
   pub rows : ℕ → ℕ
   pub last_rows : ℕ → ℕ
-  -- C-as-V is H, in Hermite form
+  -- C·V is H, in Hermite form
   pub product : (i j : ℕ) → i < m → j < N → mul N C U i j ≡ H i j
   pub hermite : Hermite m N r H rows
   -- W is the inverse of V, on either side

@@ -1,4 +1,4 @@
--- Theorem 1, "kept throughout": T = C-as-V, V-as-W = I and W-as-V = I after each of the three steps and after the reordering (at the start: Start).
+-- Theorem 1, "kept throughout": T = C·V, V·W = I and W·V = I after each of the three steps and after the reordering (at the start: Start).
 use mathlib.Core.Path.{◌≡◌, ◌∙◌}
 use mathlib.Core.Logic.{◌≢◌}
 use Prim.Native.Nat.{ℕ, ◌+◌, ◌-◌, ◌≤◌, ◌<◌}

@@ -20,7 +20,7 @@ abbrev pub coordinate : (n : ℕ) → Matrix → (ℕ → ℤ) → ℕ → ℤ
 coordinate n W x l = sum n (λ c. W l c *ℤ x c)
 
 module _ {m N r : ℕ} {C H U W : Matrix} (R : Normal m N r C H U W) where
-  -- C-as-A is [H 0]·(W-as-A)
+  -- C·A is [H 0]·(W·A)
   pub product_is : (A : Matrix) (i c : ℕ) → i < m → mul N C A i c ≡ mul N H (mul N W A) i c
   product_is A i c a =
       sym (mul_cong N C C (mul N U (mul N W A)) A i c (λ k b. refl) (λ k b. mul_cancel N U W A R.inverse_right k c b))

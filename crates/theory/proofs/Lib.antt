@@ -1,9 +1,9 @@
 -- Theorems about `rules`, none about code. For every problem: any m, n, entries and moduli, unless a line says otherwise.
 --
--- 1. Kept throughout: T = C-as-V, V-as-W = I, W-as-V = I and the shapes hold at the start, after every column step and after the reordering.
---      Start.start_holds, .start_shape, Equations.swap-holds, .negate-holds, .add-holds, .reorder-holds; of any sequence of steps Sequence.steps_hold, .steps_shape
+-- 1. Kept throughout: T = C·V, V·W = I, W·V = I and the shapes hold at the start, after every column step and after the reordering.
+--      Start.start_holds, .start_shape, Equations.swap_holds, .negate-holds, .add_holds, .reorder-holds; of any sequence of steps Sequence.steps_hold, .steps_shape
 -- 2. Every repetition ends: each time that (A) is done the sum of absolute values becomes smaller, and the definition's bound cuts no step off.
---      Eliminate.total-falls, .eliminate_ends
+--      Eliminate.total_falls, .eliminate_ends
 -- 3. The run of any problem comes to a right answer; and what each stage leaves.
 --      Run.run_right; AfterStages.first_hermite, .second-hermite, .second_leaves_T, .second-rising, .third_is, .third_leaves_T
 -- 4. There is one right answer: two that are right for one problem are equal, r, H, V and W.
@@ -24,11 +24,11 @@
 -- 9. (A) is repeated few times in one row. Say c of the active columns are not zero there, and μ is the smallest absolute value of these: then at
 --    most c + e times if μ is below fib (e + 3), the Fibonacci numbers being 0, 1, 1, 2, .., or if all are at most 2·fib (e + 3). So at most 44 times
 --    more than there are active columns if μ is within M, and 42 if all are: with 24 columns 68 and 66 times. Both are reached.
---      Depth.depth_by_smallest, .depth_by_entries, both by .depth_by_remainders; .depth_smallest-within, .depth_all-within, in the run.row_depth;
+--      Depth.depth_by_smallest, .depth_by_entries, both by .depth_by_remainders; .depth_smallest-within, .depth_all-within, in the run .row_depth;
 --      Reached.takes_68, .takes_66
 -- 10. Order 2, of any exponents and readings: where the readings are powers of two and the running values stay in range, the value is exact;
 --     a running value that is zero or not finite stays so, and the last value tells; of the readings the first n decide.
---       Powers.mul-two, .div-two, .two-fits, .fits-held; Operations.operations-sum; Exactness.group_exact, .between-held, .stays-in_range;
+--       Powers.mul-two, .div-two, .two_fits, .fits-held; Operations.operations-sum; Exactness.group_exact, .between-held, .stays-in_range;
 --       LastValue.last_tells; Gauges.gauge_alike, .gauge_not_0
 
 -- ---- the tests of rules' Limits, grids and bytes of numbers, and the searches
@@ -44,7 +44,7 @@ pub mod Search
 --     StepLines     which lines each of the three steps writes and which it leaves; the count and the flag
 --     Entries       each entry of T, V and W after each step: the steps are those of whole/proofs/Columns
 --     Lines         what holds of every line stays so; the shapes stay
---     Reorder       where each line comes from in the reordering, and that it keeps T = C-as-V and the inverses
+--     Reorder       where each line comes from in the reordering, and that it keeps T = C·V and the inverses
 --     Equations     the equations of theorem 1, after each step and after the reordering
 --     Start         the start: its lines, its shape, and that theorem 1 holds of it
 --     Moves         runs of steps whose sources are columns lo to a, and the frame law: a row that is zero there stays as it is

@@ -1,4 +1,4 @@
--- The reordering (R7.10): where each line comes from, and that T = C-as-V, V-as-W = I and W-as-V = I are kept.
+-- The reordering (R7.10): where each line comes from, and that T = C·V, V·W = I and W·V = I are kept.
 use mathlib.Core.Path.{◌≡◌, sym, ◌∙◌, ap, ap₂}
 use mathlib.Core.Bool.{Bool, true, false}
 use mathlib.Core.List.{◌++◌}
