@@ -7,7 +7,6 @@ use Prim.Native.Nat.{ℕ}
 use lib.IntN.{pos, negsuc, neg_ℤ}
 use lib.Ieee.{Float, nan, inf, fin, binary64, of_bits, mul, div, le}
 use Rattle.rules.specs.Problem.{Problem}
-use Rattle.rules.specs.Formulas.{group}
 use Rattle.rules.specs.Gauges.{lent_readings, two, nought, Between, operations, group_value, running_values, leaves_range, Gauged, value, refusal, gauge_of, gauge_answer}
 use Rattle.rules.proofs.Computing.{calls}
 use Rattle.rules.proofs.Starred.{problem, alone, problem4, problem5, widest}

@@ -1,5 +1,5 @@
 -- Sections 3 and 4 of the rules, R1.2, R2.10 and R2.11: what build, weigh and translate answer, and what every lent buffer holds after.
-use Rattle.std.specs.Prelude.{Bool, true, false, not, ◌&&◌, ◌||◌, List, [], ◌∷◌, ◌++◌, ℕ, ◌+◌, ◌*◌, leb, eqb, length, drop, ℤ}
+use Rattle.std.specs.Prelude.{Bool, true, false, not, ◌&&◌, ◌||◌, List, [], ◌∷◌, ◌++◌, ℕ, ◌*◌, leb, eqb, length, drop, ℤ}
 use Rattle.whole.specs.Lists.{nth, tab, join}
 use Rattle.whole.specs.Matrix.{Matrix}
 use Rattle.rules.specs.Limits.{sizes_in_range, modulus_in_range, entry_in_range, exponent_in_range, most_terms, room_h, room_v, room_w, room_weights, room_coefficients, room_exponents}
