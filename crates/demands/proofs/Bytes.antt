@@ -134,9 +134,9 @@ module _ (P : Problem) (F : WellFormed P) (o : (run P).state.over ≡ false) whe
   unfolding contents_h
   H-fits = grid-fits P.m (N P) (H (run P)) (λ i j _ _. run-entries P (well_formed_moderate P F) o on_t i j)
 
-  pub v-fits : AllFit (contents_v P)
+  pub V-fits : AllFit (contents_v P)
   unfolding contents_v
-  v-fits = grid-fits (N P) (N P) (U (run P)) (λ i j _ _. run-entries P (well_formed_moderate P F) o on_v i j)
+  V-fits = grid-fits (N P) (N P) (U (run P)) (λ i j _ _. run-entries P (well_formed_moderate P F) o on_v i j)
 
   pub W-fits : AllFit (contents_w P)
   unfolding contents_w

@@ -35,7 +35,7 @@ use Rattle.demands.proofs.Table.{Row, NotAt0, row_at, ProblemLengths}
 use Rattle.demands.proofs.Refusals.{Ordered, ordered, BuildRefused, checks_of_build}
 use Rattle.demands.proofs.Buffers.{KeepsRest}
 use Rattle.demands.proofs.NormalForms.{Answered, width, all_pass_exactly, build_accepted_exactly, build_answered, range_exactly, taken-or-range}
-use Rattle.demands.proofs.Bytes.{numbers-filled, bytes-keep, H-fits, v-fits, W-fits}
+use Rattle.demands.proofs.Bytes.{numbers-filled, bytes-keep, H-fits, V-fits, W-fits}
 
 -- ---- glaukemis_build: demand 1
 -- its checks, with R1.5: a buffer that ends inside a number has a wrong length
@@ -141,7 +141,7 @@ pub record WholeToBuild (matrix moduli h v w : List ℕ) : Type 0 where
   pub v-whole : Whole v
   pub w-whole : Whole w
 
--- the bytes after the first m·N, N-as-N and N-as-N numbers are as they were
+-- the bytes after the first m·N, N·N and N·N numbers are as they were
 pub record BytesKept (P : Problem) (h v w : List ℕ) (r : BuildAnswer) (h₁ v₁ w₁ : List ℕ) : Type 0 where
   pub rest_of_h : KeepsRest (4 * (P.m * width P r)) h h₁
   pub rest_of_v : KeepsRest (4 * (width P r * width P r)) v v₁
@@ -193,7 +193,7 @@ module _ (m n : ℕ) (matrix moduli h v w : List ℕ) (r : BuildAnswer) (h₁ v�
             moduli = B.moduli;
             steps = B.steps;
             h = ap numbers_of B.h ∙ numbers-filled (contents_h P) h (H-fits P G o) (omega (arith, room_for_H P L, A.1.h, lh));
-            v = ap numbers_of B.v ∙ numbers-filled (contents_v P) v (v-fits P G o) (omega (arith, room_for_v P L, A.1.v, lv));
+            v = ap numbers_of B.v ∙ numbers-filled (contents_v P) v (V-fits P G o) (omega (arith, room_for_v P L, A.1.v, lv));
             w = ap numbers_of B.w ∙ numbers-filled (contents_w P) w (W-fits P G o) (omega (arith, room_for_W P L, A.1.w, lw));
           }
       go (refused number place) e B = record {

@@ -258,7 +258,7 @@ pub record Traps : Type 0 where
   -- M is taken and M + 1 is not, in T, V and W alike, either way (by hand: column 1 gains q times column 0, row 0 of W loses q times row 1)
   pub T-M : (add_step 0 1 (pos 1) (pair (pos 1) (pos 0) (pos 0) (pos 2_147_483_646) (pos 0) (pos 0))).over ≡ false
   pub T_over : (add_step 0 1 (pos 2) (pair (pos 1) (pos 0) (pos 0) (pos 2_147_483_646) (pos 0) (pos 0))).over ≡ true
-  pub v-M : (add_step 0 1 -1 (pair (pos 0) (pos 1) (pos 0) (pos 0) (negsuc 2_147_483_645) (pos 0))).over ≡ false
+  pub V-M : (add_step 0 1 -1 (pair (pos 0) (pos 1) (pos 0) (pos 0) (negsuc 2_147_483_645) (pos 0))).over ≡ false
   pub v_over : (add_step 0 1 -2 (pair (pos 0) (pos 1) (pos 0) (pos 0) (negsuc 2_147_483_645) (pos 0))).over ≡ true
   pub W-M : (add_step 0 1 (pos 1) (pair (pos 0) (pos 0) (negsuc 2_147_483_645) (pos 0) (pos 0) (pos 1))).over ≡ false
   pub W_over : (add_step 0 1 (pos 2) (pair (pos 0) (pos 0) (negsuc 2_147_483_645) (pos 0) (pos 0) (pos 1))).over ≡ true
@@ -341,7 +341,7 @@ traps = record {
   large_h = refl;
   T-M = refl;
   T_over = refl;
-  v-M = refl;
+  V-M = refl;
   v_over = refl;
   W-M = refl;
   W_over = refl;
