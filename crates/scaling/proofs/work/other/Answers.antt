@@ -34,10 +34,10 @@ loop-j-preserved c =
       omega arith,
       omega arith,
       rw add-one (first_more (is_other f c.args.p) c.args.lo c.loop-j.j c.loop-j.invariant.0 c.loop-j.invariant.2
-      (is_false (is_other_lem f c.args.p c.loop-j.j) (λ o. o.1 (eqb-true (f c.loop-j.j) 0 (elim c.if-j-p.branch [
-        | then-j-p+else-not-is_zero w ↦
-            let x : SFits w32 (nth c.args.x.now (c.loop-j.j + c.args.base)) = search rules in
-            simp to_z-of_z at (sym w.is_zero.ensures ∙ w.if-not-is_zero.false)
-        | else-j-p w ↦ absurd (o.0 w.if-j-p.false)
-      ]))))),
+          (is_false (is_other_lem f c.args.p c.loop-j.j) (λ o. o.1 (eqb-true (f c.loop-j.j) 0 (elim c.if-j-p.branch [
+            | then-j-p+else-not-is_zero w ↦
+                let x : SFits w32 (nth c.args.x.now (c.loop-j.j + c.args.base)) = search rules in
+                simp to_z-of_z at (sym w.is_zero.ensures ∙ w.if-not-is_zero.false)
+            | else-j-p w ↦ absurd (o.0 w.if-j-p.false)
+          ]))))),
     )
