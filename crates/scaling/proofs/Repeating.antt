@@ -13,7 +13,7 @@ use Rattle.whole.specs.Lists.{nth}
 use Rattle.rules.specs.Limits.{is_zero}
 use Rattle.rules.specs.Search.{found, smallest, total}
 use Rattle.rules.specs.Steps.{State, add_step}
-use Rattle.rules.specs.Stages.{size, done, adds, next, eliminate}
+use Rattle.rules.specs.Stages.{size, done, next, eliminate}
 use Rattle.whole.proofs.Tests.{true-not-false, or-neither}
 use Rattle.theory.proofs.Eliminate.{Adds, total_falls, eliminate-done, eliminate-adds}
 use Rattle.theory.proofs.Repetition.{adds_is, quotient-small, pivot-after}
