@@ -63,7 +63,7 @@ pub fn is_free(n: usize, matrix: &[i32], moduli: &[i32], es: &[i32], start: usiz
 }
 
 // k followed by v.
-#[derive(Drop)]
+#[derive(Clone, Copy)]
 pub struct Exponents {
     pub x: [i64; 24],
 }
