@@ -42,8 +42,11 @@ module _ (P : Problem) (f : Formula) (ks ts : List ℤ) {x : Verdict} where
 all-taken : (P : Problem) (f : Formula) → terms_verdict P f ≡ taken → AllTaken P f
 all-taken P f e = record { each = terms-taken P (run P) f (all_pass (terms_check P (run P) f ∷ []) e).0 }
 
--- from what `judge_all` says, where no term is refused
+-- from what `judge_all` says
 module _ {P : Problem} {f : Formula} {j : Refusal} (J : Tells8And9 P f j) where
+  pub refused-there : (ks ts : List ℤ) → j.number ≢ 0 → Translates (translated_by P f ks ts) (record { number = j.number; place = j.place; d = 0 }) ks ts
+  refused-there ks ts h = refuses P f ks ts (says-refused J.says h)
+
   module _ (e : j.number ≡ 0) where
     pub none-refused : AllTaken P f
     none-refused = all-taken P f (says-taken J.says e)
