@@ -8,6 +8,7 @@ ghost use Rattle.frames.specs.Line.{pair};
 ghost use Rattle.frames.specs.Line as lines;
 
 // What a byte of text is worth as a digit; 16 for one that is no lower-case digit.
+#[tactic(auto, unfolding(rules::specs::Frames::digit))]
 fn digit(b: u8) -> u8
     ensures { result ≡ frames.digit b }
 {

@@ -9,6 +9,7 @@ ghost use Rattle.frames.specs.Output.{Wrote, sizes_text, row_text, term_text};
 use byte_numbers::{four_bytes, low};
 
 // The digit of a number below 16.
+#[tactic(auto, unfolding(rules::specs::Frames::digit_of))]
 fn digit(x: u8) -> u8
     requires { x < 16 }
     ensures { result ≡ digit_of x }
