@@ -95,7 +95,7 @@ fn solved(x: Input, d: u32, kept: &[i32], translated: &[i32]) -> Text
     solution(s, &h, &v, &w, kept, translated)
 }
 
-// The answer to a well_formed input.
+// The answer to a well-formed input.
 pub fn solve(x: Input) -> Text
     requires { Sized x }
     ensures { Shows result (answered (problem_in x) (formula_in x) (translate_verdict (problem_in x) (formula_in x) true true)) }

@@ -1,4 +1,4 @@
-use Rattle.std.proofs.Common.{◌≡◌, ℕ, ◌+◌, ◌*◌, ap₂, ◌∙◌}
+use Rattle.std.proofs.Common.{ℕ, ◌+◌, ◌*◌, ap₂, ◌∙◌}
 use native.Mathlib.Nat.{add-zero}
 use lib.Seq.{get_or-drop}
 use Rattle.frames.specs.Line.{pair}

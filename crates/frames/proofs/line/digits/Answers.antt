@@ -1,4 +1,4 @@
-use Rattle.std.proofs.Common.{◌≡◌, arith, sym, ◌∙◌}
+use Rattle.std.proofs.Common.{arith, sym, ◌∙◌}
 use Rattle.frames.proofs.Digits.{digits_stop, digits_on}
 use Rattle.frames.proofs.line.digits.Goals as goal
 

@@ -1,4 +1,4 @@
-use Rattle.std.proofs.Common.{◌≡◌, arith, ◌∙◌}
+use Rattle.std.proofs.Common.{arith, ◌∙◌}
 use Rattle.checks.proofs.Values.{held}
 use Rattle.frames.proofs.Digits.{part-digits}
 use Rattle.frames.proofs.Numbers.{long_is}

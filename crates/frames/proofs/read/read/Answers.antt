@@ -1,4 +1,4 @@
-use Rattle.std.proofs.Common.{◌≡◌, true, false, ◌+◌, ◌*◌, drop, arith, sym, ◌∙◌}
+use Rattle.std.proofs.Common.{◌≡◌, true, false, arith, sym, ◌∙◌}
 use Rattle.frames.specs.Line.{starts_frame}
 use Rattle.frames.proofs.Digits.{part-digits}
 use Rattle.frames.proofs.Lines.{frame-room, frame-digits}
