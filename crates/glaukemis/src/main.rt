@@ -4,14 +4,14 @@
 
 mod input;
 
-fn main() {
+fn main(rt: HostRuntime) {
     let mut input: [u8; 5376] = [0; 5376];
-    let held = input::read(libc::STDIN_FILENO, &mut input);
+    let held = input::read(&mut rt.stdin(), &mut input);
     let count = held.len;
     let text = frames::answer(&input[..count]);
     let bytes = text.bytes;
     let len = text.len;
-    if !io::write_all(libc::STDOUT_FILENO, &bytes[..len]) {
-        io::write_all(libc::STDERR_FILENO, b"the answer could not be written\n");
+    if rt.write_all(&bytes[..len]).is_err() {
+        let _ = rt.eprintln("the answer could not be written");
     }
 }
