@@ -14,7 +14,7 @@ use Rattle.whole.proofs.Lists.{nth-replicate}
 use Rattle.rules.specs.Limits.{M, room_w}
 use Rattle.rules.specs.Problem.{Problem, N}
 use Rattle.rules.specs.Stages.{run, W}
-use Rattle.rules.specs.Calls.{taken, verdict, range_check, grid, filled, contents_w, checks_to5, problem_fits}
+use Rattle.rules.specs.Calls.{verdict, range_check, grid, filled, contents_w, checks_to5, problem_fits}
 use Rattle.theory.proofs.Run.{run_right}
 use Rattle.theory.proofs.RunRange.{well_formed_moderate, run_entries_w}
 use Rattle.theory.proofs.Groups.{d-le-n}

@@ -11,7 +11,7 @@ use lib.Dec.{leb}
 use lib.ListN.{length, take, drop, length-append, length-drop, take-append-drop}
 use lib.Seq.{take_at}
 use lib.IntN.{ℤ}
-use Rattle.rules.specs.Problem.{s, N}
+use Rattle.rules.specs.Problem.{N}
 use Rattle.rules.specs.Stages.{run}
 use Rattle.rules.specs.Formulas.{d, terms}
 use Rattle.rules.specs.Calls.{Verdict, taken, refused, translate_verdict, build_verdict, problem_fits, formula_fits, contents_h, contents_v, contents_w, translated_exponents, Built, built, build_of, Translated, translated_to, translate_of}

@@ -3,8 +3,6 @@ use Rattle.std.proofs.Common.{◌≡◌, arith, refl, sym, ◌∙◌, List, leng
 use lib.ListN.{replicate}
 use Rattle.rules.specs.Limits.{room_h, room_v, room_w}
 use Rattle.rules.specs.Problem.{Problem}
-use Rattle.rules.specs.Gauges as rules
-use Rattle.checks.specs.Checks.{given}
 use Rattle.scaling.specs.declared.BuildAnswer.{BuildAnswer}
 use Rattle.scaling.specs.BuildPromise.{Builds}
 use Rattle.rules.specs.Calls.{build_of}
