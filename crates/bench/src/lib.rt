@@ -20,8 +20,7 @@ use scaling::BuildAnswer;
 use words::{decode, encode, room};
 
 // A wrong length is handed on as one more than any right one, and a lent output without room as an empty one.
-#[unsafe(no_mangle)]
-pub extern "C" fn glaukemis_build(
+pub fn glaukemis_build(
     m: u32,
     n: u32,
     matrix: &[u8],
@@ -62,8 +61,7 @@ pub extern "C" fn glaukemis_build(
     r
 }
 
-#[unsafe(no_mangle)]
-pub extern "C" fn glaukemis_translate(
+pub fn glaukemis_translate(
     m: u32,
     n: u32,
     matrix: &[u8],
@@ -107,8 +105,7 @@ pub extern "C" fn glaukemis_translate(
 }
 
 // Numbers as they are: each call below has the promise of the call that it makes.
-#[unsafe(no_mangle)]
-pub extern "C" fn glaukemis_build_numbers(
+pub fn glaukemis_build_numbers(
     m: u32,
     n: u32,
     matrix: &[i32],
@@ -122,8 +119,7 @@ pub extern "C" fn glaukemis_build_numbers(
     scaling::build(m, n, matrix, moduli, h, v, w)
 }
 
-#[unsafe(no_mangle)]
-pub extern "C" fn glaukemis_weigh(
+pub fn glaukemis_weigh(
     m: u32,
     n: u32,
     matrix: &[i32],
@@ -136,8 +132,7 @@ pub extern "C" fn glaukemis_weigh(
     formulas::weigh(m, n, matrix, moduli, exponents, weights)
 }
 
-#[unsafe(no_mangle)]
-pub extern "C" fn glaukemis_translate_numbers(
+pub fn glaukemis_translate_numbers(
     m: u32,
     n: u32,
     matrix: &[i32],
@@ -172,8 +167,7 @@ pub struct GaugeAnswer {
     pub value: f64,
 }
 
-#[unsafe(no_mangle)]
-pub extern "C" fn glaukemis_gauge(
+pub fn glaukemis_gauge(
     m: u32,
     n: u32,
     matrix: &[i32],
