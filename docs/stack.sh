@@ -7,7 +7,7 @@ cd "$(dirname "$0")/.."
 folder=$(mktemp -d)
 trap 'rm -rf "$folder"' EXIT
 
-rt staticlib bench >"$folder/log" 2>&1 || { cat "$folder/log"; exit 1; }
+bash archive.sh >"$folder/log" 2>&1 || { cat "$folder/log"; exit 1; }
 # Linked with -z now, or the first call of a C function on the painted stack would be its search by the loader.
 gcc -std=gnu11 -O2 -Wall -Wextra -Werror -Iinclude peer/stack.c target/staticlib/libbench.a -Wl,-z,now -o "$folder/stack"
 cargo run --release --offline --quiet --manifest-path peer/Cargo.toml --bin depth -- tests/program/taken-deep*-row*.in >"$folder/problems"

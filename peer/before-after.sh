@@ -10,7 +10,7 @@ for tree in "before $1" "now HEAD"; do
     read -r name commit <<<"$tree"
     git clone -q "$root" "$dir/$name"
     git -C "$dir/$name" checkout -q "$(git -C "$root" rev-parse "$commit")"
-    (cd "$dir/$name" && rt staticlib bench >"$dir/log" 2>&1) || { cat "$dir/log"; exit 1; }
+    bash "$dir/$name/archive.sh" >"$dir/log" 2>&1 || { cat "$dir/log"; exit 1; }
     (cd "$dir/$name/peer" && cargo build --release --offline --quiet --features bench --bin bench)
 done
 

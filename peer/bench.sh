@@ -4,7 +4,7 @@ set -eu
 cd "$(dirname "$0")"
 dpkg -s libflint-dev libpari-dev >/dev/null 2>&1 || apt-get install -y -q libflint-dev libpari-dev
 library=../target/staticlib
-[ -f "$library/libbench.a" ] || (cd .. && rt staticlib bench)
+bash ../archive.sh
 gcc -O2 -Wall -Wextra -c others.c -o "$library/others.o"
 ar rcs "$library/libothers.a" "$library/others.o"
 cargo run --release --offline --quiet --features bench,others --bin bench

@@ -1,7 +1,7 @@
 #!/usr/bin/env bash
 # The C library as a stranger gets it: install.sh into a scratch folder, programs compiled by pkg-config against what is there, shared and
 # static, in C and C++, and run on a stack of 1 MB; the names that the libraries export; and what install.sh says where it cannot install.
-# Needs the archive (rt staticlib bench), gcc, g++, binutils and pkg-config.
+# Needs gcc, g++, binutils and pkg-config; and rt, where the archive is missing or older than the sources (archive.sh).
 set -u
 cd "$(dirname "$0")/.." || exit 1
 folder=$(mktemp -d)

@@ -1,11 +1,12 @@
 #!/usr/bin/env bash
-# Builds the program parlour over the static library (rt staticlib bench), runs its own tests, and holds what it prints to
+# Builds the program parlour over the static library, runs its own tests, and holds what it prints to
 # examples/pulsator.parlour.out and to the transcripts of tests/parlour. In a transcript a line `$ COMMAND` is followed by what the
 # command prints on standard output, by what it prints on standard error with `! ` before each line, and by `= ` and the
 # exit status. The commands run in tests/parlour, on a stack of 1 MB.
 # `tests/parlour.sh store` writes the transcripts and the example's output anew, to be read in the difference.
 set -u
 cd "$(dirname "$0")/.." || exit 1
+bash archive.sh && bash programs.sh || exit 1
 dir=$(mktemp -d)
 trap 'rm -rf "$dir"' EXIT
 passed=0 failed=0

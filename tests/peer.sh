@@ -5,6 +5,7 @@
 # COUNT is 20,000, or the first argument.
 set -u
 cd "$(dirname "$0")/../peer" || exit 1
+bash ../archive.sh && bash ../programs.sh || exit 1
 count=${1:-20000}
 folder=$(mktemp -d)
 log=$folder/log

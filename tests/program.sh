@@ -4,6 +4,7 @@
 # an output that cannot be written.
 set -u
 cd "$(dirname "$0")/.." || exit 1
+bash programs.sh || exit 1
 program=$PWD/target/bin/glaukemis
 dir=$(mktemp -d)
 trap 'rm -rf "$dir"' EXIT
