@@ -21,13 +21,13 @@ minutes() { echo "$(($1 / 60)) min $(($1 % 60)) s"; }
 # Each crate's proof and nothing beside it: without the edits, one crate after the other. A crate's lines end with 'rt: NAME proved', and it took
 # the time since the crate before it ended.
 rm -rf crates/*/must-fail
-date +%s%N >times
+date +%s%N >measured
 RT_JOBS=1 rt ci --anew </dev/null 2>&1 | while IFS= read -r line; do
     case $line in
     '== '* | 'rt: '*' proved' | 'logic=proved functions='*) echo "$(date +%s%N) $line" ;;
     *) echo "$line" >>log ;;
     esac
-done >>times
+done >>measured
 tail -n 1 log | grep -q ' passed, 0 failed' || { cat log; exit 1; }
 git checkout -q -- crates
 
@@ -37,7 +37,7 @@ of() {
         NR == 1 { ended = $1 }
         $2 == "==" { name = $3 }
         name == crate && $2 == "logic=proved" { functions = substr($3, 11) }
-        $2 == "rt:" { if ($3 == crate) print functions + 0, int(($1 - ended) / 100000000); ended = $1 }' times
+        $2 == "rt:" { if ($3 == crate) print functions + 0, int(($1 - ended) / 100000000); ended = $1 }' measured
 }
 
 echo "Commit $(git rev-parse --short HEAD), $(rt version), $(nproc) processors ($(sed -n 's/^model name[^:]*: //p' /proc/cpuinfo | head -n 1))."
@@ -57,12 +57,12 @@ echo "| all | ${all[0]} | ${all[1]} | ${all[2]} | ${all[3]} | ${all[4]} | $((all
 echo
 echo "Outside the crates, lines that are not blank: peer $(lines peer/src '*.rs') of Rust, $(lines peer '*.c') of C; parlour $(($(lines parlour/src '*.rs') + $(lines parlour/tests '*.rs'))) of Rust; example, header and their tests $(($(lines examples '*.c') + $(lines include '*.h') + $(lines tests '*.c'))) of C; scripts $(($(cat install.sh archive.sh programs.sh .ci/run | grep -c '[^[:space:]]') + $(lines parlour '*.sh') + $(lines tests '*.sh') + $(lines peer '*.sh') + $(lines docs '*.sh'))) of bash."
 [ "${1:-}" = --no-gate ] && exit
-rm times log
+rm measured log
 begun=$(date +%s)
-result=$(rt ci --anew 2>&1 </dev/null | tail -n 1)
+result=$(rt ci --anew 2>&1 </dev/null | tail -n 1) || true
 echo
 echo "All proofs and must-fail edits from nothing, on all processors: $(minutes $(($(date +%s) - begun))), \`$result\`."
 begun=$(date +%s)
-result=$(bash .ci/run 2>&1 | tail -n 1)
+result=$(bash .ci/run 2>&1 | tail -n 1) || true
 echo
 echo "The gate after it, which does not prove again what did not change: $(minutes $(($(date +%s) - begun))), \`$result\`."

@@ -1,5 +1,5 @@
-// The bench's C calls: the build and the translation over bytes, each number in four of them, big-endian two's complement; and every call over numbers
-// as they are.
+// The bench's calls, which C reaches by bench_c: the build and the translation over bytes, each number in four of them, big-endian two's complement;
+// and every call over numbers as they are.
 #![tactic(auto)]
 
 ghost use Rattle.rules.specs.Bench.{bench_build_of, bench_translate_of};
