@@ -3,14 +3,13 @@ use mathlib.Core.Path.{◌≡◌, sym, ap, ap₂, ◌∙◌}
 use mathlib.Core.List.{List, [], ◌∷◌, ◌++◌}
 use Prim.Native.Nat.{ℕ, suc, ◌+◌, ◌*◌, ◌<◌}
 use native.Mathlib.Nat.{add-zero}
-use native.Mathlib.Numerals.{add-one}
 use native.Mathlib.Omega.{arith}
 use lib.ListN.{length, get_or, take, drop, set, length-append}
-use lib.Seq.{sets-eq, take-suc-set, take_at, drop-append-add, drop-drop, get_or-drop, length-take-le}
+use lib.Seq.{sets-eq, take_at, drop-append-add, drop-drop, get_or-drop, length-take-le}
 use lib.IntN.{ℤ, pos}
-use Rattle.rules.specs.Bytes.{long, longs, bytes_of}
+use Rattle.rules.specs.Bytes.{long, bytes_of}
 use Rattle.rules.specs.Calls.{filled}
-use Rattle.theory.proofs.Bytes.{length-bytes, bytes-more, longs-suc}
+use Rattle.theory.proofs.Bytes.{length-bytes, bytes-more}
 use Rattle.bench.specs.Words.{Put}
 
 -- ---- reading
@@ -18,11 +17,6 @@ pub four_at : (s : List ℕ) (at : ℕ)
     → long (get_or s at 0 ∷ get_or s (at + 1) 0 ∷ get_or s (at + 2) 0 ∷ get_or s (at + 3) 0 ∷ []) ≡ long (drop at s)
 unfolding long
 four_at s at = simp (get_or-drop, add-zero)
-
--- one number more
-pub decoded_suc : (s : List ℕ) (out : List ℤ) (i : ℕ) (z : ℤ) → i < length out → take i out ≡ longs i s
-    → z ≡ long (drop (i * 4) s) → take (i + 1) (set out i z) ≡ longs (i + 1) s
-decoded_suc s out i z h t e = rw add-one (take-suc-set out i z h ∙ rw (t, e) (sym (longs-suc i s)))
 
 -- ---- writing
 four_set : (out : List ℕ) (at a b c d : ℕ) → at + 3 < length out

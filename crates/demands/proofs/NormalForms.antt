@@ -1,5 +1,5 @@
 -- Demand 2: what an accepted problem gives is right in the sense of section 6 of the rules (the Hermite form, the normal multiplier and its inverse),
--- and nothing else is right. Refusal 7 comes for a well_formed problem exactly when one of its steps writes a number beyond M.
+-- and nothing else is right. Refusal 7 comes for a well-formed problem exactly when one of its steps writes a number beyond M.
 --
 -- `promise` is what build's `ensures` says; P is the problem as it was given; h, v, w are the lent outputs before the call and h₁, v₁, w₁ after it.
 -- WellFormed is of rules/specs/Problem, Right (H in column Hermite form, V normal, W its inverse) of rules/specs/Forms.
@@ -139,7 +139,7 @@ module _ (P : Problem) (h v w : List ℤ) (r : BuildAnswer) (h₁ v₁ w₁ : Li
         rest_of_w = rw (k, B.w) (filled_keeps (N P * N P) (contents_w P) w l_w (omega (arith, l_w, room_for_W P L, A.1.w)));
       }
 
--- R4.7: a well_formed problem is refused 7 exactly when a step writes a number beyond M.
+-- R4.7: a well-formed problem is refused 7 exactly when a step writes a number beyond M.
 -- The written steps of P are its run, and run_steps P lists them, with the reordering among them, from the start to the end. `x` is any such list: no
 -- other that leads to the same end would say anything else.
 module _ (P : Problem) (h v w : List ℤ) (r : BuildAnswer) (h₁ v₁ w₁ : List ℤ) (promise : Builds (build_of P h v w) r h₁ v₁ w₁)
@@ -152,7 +152,7 @@ module _ (P : Problem) (h v w : List ℤ) (r : BuildAnswer) (h₁ v₁ w₁ : Li
       let e = (build_accepted_exactly P h v w r h₁ v₁ w₁ promise).1 (record { well_formed = F; in_range = o }, room) in
       ((λ z. absurd (omega arith), λ z. absurd (false≢true z)), (λ _. refl, λ _. e))
 
-  -- a well_formed problem with room is taken or refused for range
+  -- a well-formed problem with room is taken or refused for range
   pub taken-or-range : (r.number ≡ 0) ⊎ (r.number ≡ 7)
   taken-or-range = go (run P).state.over refl
     where

@@ -26,7 +26,7 @@ use Rattle.demands.proofs.Table.{row_6}
 use Rattle.demands.proofs.Refusals.{checks_of_weigh, weigh_ordered}
 use Rattle.demands.proofs.Buffers.{KeepsRest, filled_keeps}
 
--- a well_formed problem, one exponent for each quantity, each from -10,000 to 10,000, and room for eight weights
+-- a well-formed problem, one exponent for each quantity, each from -10,000 to 10,000, and room for eight weights
 pub record Asked (P : Problem) (es out : List ℤ) : Type 0 where
   pub well_formed : WellFormed P
   pub fits : length es ≡ P.n

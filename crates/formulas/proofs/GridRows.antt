@@ -1,10 +1,10 @@
 -- A grid written row after row into a list: the rows written so far, and what stood after them.
 use mathlib.Core.Path.{◌≡◌, sym, ◌∙◌, ap}
 use mathlib.Core.List.{List, ◌++◌}
-use Prim.Native.Nat.{ℕ, suc, ◌+◌, ◌*◌, ◌<◌}
+use Prim.Native.Nat.{ℕ, suc, ◌+◌, ◌*◌, ◌<◌, ◌≤◌}
 use native.Mathlib.Numerals.{add-one}
 use native.Mathlib.Omega.{arith}
-use lib.ListN.{length, drop}
+use lib.ListN.{length, drop, length-append, length-drop}
 use lib.Seq.{take_at, drop-append-add, drop-drop}
 use lib.IntN.{ℤ}
 use Rattle.whole.specs.Lists.{tab}
@@ -18,6 +18,13 @@ use Rattle.scaling.proofs.Filling.{join_more}
 module _ (n : ℕ) (A : Matrix) (xs : List ℤ) where
   abbrev pub begun : (rows : ℕ) → List ℤ
   begun t = grid t n A ++ drop (t * n) xs
+
+  pub begun-none : begun 0 ≡ xs
+  begun-none = let e : 0 * n ≡ 0 = omega arith in ap (λ k. drop k xs) e
+
+  pub length-begun : (t : ℕ) → t * n ≤ length xs → length (begun t) ≡ length xs
+  length-begun t h =
+      length-append (grid t n A) (drop (t * n) xs) ∙ omega (arith, length-grid t n A, length-drop (t * n) xs)
 
   -- row t is written next
   module _ (t : ℕ) (f : ℕ → ℤ) (row : (c : ℕ) → c < n → f c ≡ A t c) where

@@ -4,10 +4,11 @@ use mathlib.Core.List.{List}
 use Prim.Native.Nat.{ℕ, ◌+◌, ◌<◌, ◌≤◌}
 use native.Mathlib.Decide.{ℕ_discrete}
 use native.Mathlib.Omega.{arith}
-use lib.ListN.{length, get_or, set, length-set}
+use lib.ListN.{length, get_or, set, replicate, length-set}
 use lib.Seq.{get_or-set_same, get_or-set_other}
 use lib.IntN.{ℤ, pos, nat_abs}
 use Rattle.whole.specs.Lists.{nth}
+use Rattle.whole.proofs.Lists.{nth-replicate}
 use Rattle.whole.proofs.Order.{non_zero_size}
 use Rattle.rules.specs.Problem.{Problem, s, WellFormed}
 use Rattle.rules.specs.Formulas.{k_then_v}
@@ -50,6 +51,10 @@ begins-k {P} {v} K l e = record {
   entries = λ i h. let g : i < s P = omega (arith, e) in K.entries i g ∙ sym (k_then_v_first P v i g);
   small = K.small;
 }
+
+-- an array of zeros
+pub zeros-small : (n k : ℕ) → nat_abs (nth (replicate n (pos 0)) k) ≤ most_row_times
+zeros-small n k = rw (nth-replicate n (pos 0) k) (omega arith)
 
 -- the row that is listed for k's entry c has a modulus
 pub listed-modulus : {P : Problem} {q : ModulusRows} → WellFormed P → Lists P q → (c : ℕ) → c < q.s → Modulus P (get_or q.rows c 0)

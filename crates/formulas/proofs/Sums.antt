@@ -1,10 +1,11 @@
--- Sums of products that a loop adds up in 64 bits: one more product, the sizes of a sum begun, and a sum that is stored in 32 bits.
+-- Sums of products that a loop adds up in 64 bits: one more product, the sizes of a sum begun, and a sum that is divided, or stored in 32 bits.
 use mathlib.Core.Path.{◌≡◌, refl, ◌∙◌}
 use mathlib.Core.List.{List}
-use Prim.Native.Nat.{ℕ, suc, ◌+◌, ◌*◌, ◌<◌, ◌≤◌}
+use Prim.Native.Nat.{ℕ, suc, ◌+◌, ◌-◌, ◌*◌, ◌<◌, ◌≤◌}
 use native.Mathlib.Numerals.{add-one}
 use native.Mathlib.Omega.{arith}
 use lib.IntN.{ℤ, nat_abs, ◌+ℤ◌, ◌*ℤ◌}
+use lib.Signed.{quot_z}
 use mir.Syntax.{w32, w64}
 use mir.Val.{SFits, to_z, of_z}
 use mir.Facts.{to_z-of_z}
@@ -14,8 +15,8 @@ use Rattle.whole.proofs.Order as order
 use Rattle.whole.proofs.Sum.{products_size}
 use Rattle.rules.specs.Limits.{M}
 use Rattle.formulas.specs.declared.terms.Exponents.{Exponents}
-use Rattle.formulas.specs.Terms.{Products, most_row_times, RowOfW}
-use Rattle.checks.proofs.Values.{fits32}
+use Rattle.formulas.specs.Terms.{Products, most_row_times, RowOfW, RowsOfW}
+use Rattle.checks.proofs.Values.{abs32, fits32, widened, quot_fits, bits_pos}
 
 -- s is the sum of the first j, r is the next, and the sum with it fits
 module _ (f : ℕ → ℤ) (j : ℕ) (s r : ℤ) (begun : s ≡ sum j f) (next : r ≡ f j) (fits : SFits w64 r)
@@ -44,6 +45,15 @@ module _ (z : ℤ) (small : nat_abs z ≤ M) where
 
   pub narrowed : to_z w32 (of_z w32 (to_z w64 (of_z w64 z))) ≡ z
   narrowed = rw (to_z-of_z fits) (to_z-of_z (fits32 z small))
+
+-- what a division of x, which stands as y, by a number of 32 bits asks
+pub divides64 : {y x : ℤ} (p : ℤ) → y ≡ x → nat_abs x ≤ most_row_times → SFits w32 p → 0 < nat_abs p
+    → (0 < of_z w64 (to_z w32 (of_z w32 p))) × SFits w64 (quot_z y (to_z w64 (of_z w64 (to_z w32 (of_z w32 p)))))
+divides64 {x = x} p e h f l = (rw (to_z-of_z f) (bits_pos p (abs32 p f) l), rw (e, widened p f) (quot_fits x p (omega arith)))
+
+-- a row of those from r on
+pub row_from : {w : List ℤ} {n r : ℕ} {e : Exponents} → RowsOfW w n r e → (g : ℕ) → g < n - r → RowOfW w n (r + g) e
+row_from p g h = record { few = p.few; row_in = omega (arith, p.r_in); length = p.length; w-small = p.w-small; e-small = p.e-small }
 
 -- ---- sizes
 pub dot_small : {a b : List ℤ} {at from count : ℕ} → Products a at b from count → (k : ℕ) → k ≤ count

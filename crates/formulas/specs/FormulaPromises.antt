@@ -49,7 +49,7 @@ pub record RoomToTranslate (kept₀ translated₀ : List ℤ) : Type 0 where
   pub kept : room_coefficients ≤ length kept₀
   pub translated : room_exponents ≤ length translated₀
 
--- a well_formed formula, and room for what it becomes
+-- a well-formed formula, and room for what it becomes
 pub record FormulaWithRoom (P : Problem) (f : Formula) (kept₀ translated₀ : List ℤ) : Type 0 where
   pub well_formed : WellFormedFormula P f
   pub room : RoomToTranslate kept₀ translated₀
@@ -64,7 +64,7 @@ pub record Solved (P : Problem) (w : List ℤ) (r : ℕ) : Type 0 where
   pub small : Small w
   pub entries : (i c : ℕ) → i < N P → c < N P → nth w (i * N P + c) ≡ W (run P) i c
 
--- a well_formed problem with its rows that have a modulus, its W and its rank
+-- a well-formed problem with its rows that have a modulus, its W and its rank
 pub record Prepared (P : Problem) (q : ModulusRows) (w : List ℤ) (r : ℕ) : Type 0 where
   pub well_formed : WellFormed P
   pub lists : Lists P q

@@ -19,7 +19,7 @@ pub record Monomial (n : ℕ) (es : List ℤ) (at : ℕ) : Type 0 where
   pub fits : at + n ≤ length es
   pub small : (i : ℕ) → nat_abs (nth es i) ≤ 10_000
 
--- a monomial of a well_formed problem
+-- a monomial of a well-formed problem
 pub record TermOf (P : Problem) (es : List ℤ) (at : ℕ) : Type 0 where
   pub well_formed : WellFormed P
   pub monomial : Monomial P.n es at

@@ -4,11 +4,12 @@ use mathlib.Core.Path.{◌≡◌, refl, sym, ap, ap₂, ◌∙◌}
 use mathlib.Core.Bool.{Bool, true, false, cond, ◌&&◌}
 use mathlib.Core.List.{List, [], ◌∷◌}
 use Prim.Native.Nat.{ℕ, zero, suc, ◌+◌, ◌-◌, ◌*◌, ◌/◌, ◌<◌, ◌≤◌}
+use native.Mathlib.Nat.{add-zero}
 use native.Mathlib.Omega.{arith}
-use borrow.Author.Tests.{leb-true, lt-ltb, le-ltb}
+use borrow.Author.Tests.{leb-true, ltb-true, lt-ltb, le-ltb}
 use lib.Dec.{ltb, leb}
-use lib.ListN.{length, get_or, take, drop}
-use lib.Seq.{drop-cons, drop-drop, length-take-le}
+use lib.ListN.{length, get_or, take, drop, length-drop}
+use lib.Seq.{drop-cons, drop-drop, get_or-drop, length-take-le}
 use Rattle.whole.proofs.Tests.{and_both}
 use Rattle.rules.specs.Frames.{digit, all_digits, unhex, whole, frame_of}
 
@@ -61,7 +62,22 @@ digits-part (suc c) (suc i) j (b ∷ t) e h = digits-part c i j t (and_both (is_
 pub part-digits : (s : List ℕ) (at c i j : ℕ) → all_digits (take c (drop at s)) ≡ true → i + j ≤ c → all_digits (take j (drop (at + i) s)) ≡ true
 part-digits s at c i j e h = rw drop-drop at (digits-part c i j (drop at s) e h)
 
+digit-small : (c i : ℕ) (t : List ℕ) → all_digits (take c t) ≡ true → i < c → i < length t → digit (get_or t i 0) < 16
+digit-small c i [] e h l = absurd (omega arith)
+digit-small zero i (b ∷ t) e h l = absurd (omega arith)
+digit-small (suc c) zero (b ∷ t) e h l = ltb-true _ _ (and_both (is_digit b) _ e).0
+digit-small (suc c) (suc i) (b ∷ t) e h l = digit-small c i t (and_both (is_digit b) _ e).1 (omega arith) (omega arith)
+
 -- ---- bytes
+-- two digits, each of which is worth less than 16
+pub both_small : (s : List ℕ) (at : ℕ) → at + 1 < length s → all_digits (take 2 (drop at s)) ≡ true
+    → (digit (get_or s at 0) < 16) × (digit (get_or s (at + 1) 0) < 16)
+both_small s at l d =
+    let m = length-drop at s in (
+      simp (get_or-drop, add-zero) at (digit-small 2 0 (drop at s) d (omega arith) (omega arith)),
+      simp get_or-drop at (digit-small 2 1 (drop at s) d (omega arith) (omega arith)),
+    )
+
 -- what stands after the digits does not matter
 unhex-cut : (c j : ℕ) (t : List ℕ) → 2 * c ≤ j → unhex c (take j t) ≡ unhex c t
 unfolding unhex

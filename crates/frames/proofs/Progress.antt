@@ -1,6 +1,6 @@
 -- Where the reading stands after some lines, and what the next line does.
 -- Assumes nothing.
-use mathlib.Core.Path.{◌≡◌, refl, sym, ap, ◌∙◌}
+use mathlib.Core.Path.{◌≡◌, refl, sym, ap, ◌∙◌, subst}
 use mathlib.Core.Bool.{true, false}
 use mathlib.Core.List.{List, [], ◌∷◌, ◌++◌, append-nil, append_assoc}
 use Prim.Native.Nat.{ℕ, suc, ◌+◌, ◌-◌, ◌*◌, ◌<◌, ◌≤◌}
@@ -97,6 +97,11 @@ module _ {s : List ℕ} {m n i p : ℕ} {x : Input} (r : Past s m n i 0 p x) (mo
           left = r.left ∙ ap (formed m n (lines_of (drop 7 s))) step;
           held = rw (e, ← c) h;
         }
+
+pub all-rows : {s : List ℕ} {m n i k p : ℕ} {x : Input} → Past s m n i k p x → m ≤ i → Past s m n m k p x
+all-rows {s} {m} {n} {i} {k} {p} {x} r h =
+    let e : i ≡ m = omega (arith, r.rows_behind) in
+    subst (λ (i : ℕ). Past s m n i k p x) e r
 
 module _ {s : List ℕ} {m n k p : ℕ} {x : Input} (r : Past s m n m k p x) where
   no_rows : m - m ≡ 0

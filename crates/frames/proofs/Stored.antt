@@ -8,7 +8,7 @@ use native.Mathlib.Nat.{suc-mul}
 use native.Mathlib.Numerals.{add-one}
 use native.Mathlib.Omega.{arith}
 use lib.ListN.{length, get_or, take, drop, set, length-append}
-use lib.Seq.{paste, paste-suc, take-paste, take-length, take-suc-set, drop-drop}
+use lib.Seq.{paste, paste-suc, length-paste, take-paste, take-length, take-suc-set, drop-drop}
 use lib.IntN.{ℤ, pos}
 use Rattle.whole.specs.Lists.{join}
 use Rattle.rules.specs.Bytes.{short, shorts}
@@ -49,6 +49,11 @@ numbers_more n f ls l a zs h k e g =
 module _ (a : List ℤ) (from : ℕ) (s : List ℕ) (at count k : ℕ) where
   pub fill_digits : all_digits (take (4 * count) (drop at s)) ≡ true → k < count → all_digits (take 4 (drop (at + 4 * k) s)) ≡ true
   fill_digits e h = part-digits s at (4 * count) (4 * k) 4 e (omega arith)
+
+  pub fill_length : k ≤ count → from + count ≤ length a → length (paste a from (shorts count (unhex (2 * count) (drop at s))) k) ≡ length a
+  fill_length h l =
+      let e = length-shorts count (unhex (2 * count) (drop at s)) in
+      length-paste a from (shorts count (unhex (2 * count) (drop at s))) k (omega arith) (omega arith)
 
   pub fill_again : (b : List ℤ) (z : ℤ) → k < count → from + count ≤ length a → b ≡ paste a from (shorts count (unhex (2 * count) (drop at s))) k
       → z ≡ short (unhex 2 (drop (at + 4 * k) s)) → set b (from + k) z ≡ paste a from (shorts count (unhex (2 * count) (drop at s))) (k + 1)

@@ -1,9 +1,9 @@
--- Checks 11, 24, 12 and 13, one after the other: what 13 makes of the answer once those before it are passed.
+-- Checks 11, 24, 12 and 13, one after the other: what each makes of the answer once those before it are passed.
 use mathlib.Core.Path.{◌≡◌, sym, ap, ◌∙◌}
 use mathlib.Core.Bool.{Bool, true, false, not}
 use mathlib.Core.List.{List, [], ◌∷◌}
-use Prim.Native.Nat.{ℕ, ◌<◌}
-use borrow.Author.Tests.{lt-ltb}
+use Prim.Native.Nat.{ℕ, ◌≤◌, ◌<◌}
+use borrow.Author.Tests.{lt-ltb, le-ltb}
 use lib.IntN.{ℤ}
 use lib.Ieee.{Float}
 use lib.Ieee.Positive.{positive}
@@ -35,13 +35,22 @@ module _ (n d g : ℕ) (v : ℕ → ℤ) (x : ℕ → Float) where
   abbrev answer : Gauged
   answer = evaluate_of n d v x g
 
+  pub bad-reading : (k : ℕ) → first (λ j. not (positive (x j))) 0 n ≡ found k → answer ≡ refusal 11 k (x k)
+  bad-reading k e = ap (gauged_by n v x) (stops (readings_check n x) from24 k e)
+
   module _ (good : first (λ j. not (positive (x j))) 0 n ≡ none) where
     past11 : {w : Verdict} → verdict from24 ≡ w → answer ≡ gauged_by n v x w
     past11 e = ap (gauged_by n v x) (passes (readings_check n x) from24 good ∙ e)
 
+    pub no_group : d ≤ g → answer ≡ refusal 24 g nought
+    no_group h = past11 (stops (group_check d g) from12 g (ap (unless_at g) (le-ltb g d h)))
+
     module _ (there : g < d) where
       past24 : {w : Verdict} → verdict from12 ≡ w → answer ≡ gauged_by n v x w
       past24 e = past11 (passes (group_check d g) from12 (ap (unless_at g) (lt-ltb g d there)) ∙ e)
+
+      pub large_power : (k : ℕ) → first (λ j. not (power_in_range (v j))) 0 n ≡ found k → answer ≡ refusal 12 g nought
+      large_power k e = past24 (stops (powers_check n v g) from13 g (ap (λ f. unless_at g (is_none f)) e))
 
       module _ (small : first (λ j. not (power_in_range (v j))) 0 n ≡ none) (r : Float) (last : r ≡ group_value n v x) where
         -- the last value tells whether any running value is out

@@ -1,4 +1,4 @@
--- The way out of a loop that searches: found here. Over any test.
+-- The way out of a loop that searches: found here, or nowhere. Over any test.
 use mathlib.Core.Path.{◌≡◌}
 use mathlib.Core.Bool.{Bool, true}
 use Prim.Native.Nat.{ℕ, ◌<◌}
@@ -13,4 +13,11 @@ module _ (test : ℕ → Bool) (n j : ℕ) (before : first test 0 j ≡ none) wh
     upto = omega arith;
     hit = λ _. first_hit test 0 j n (omega arith) l before e;
     miss = λ z. absurd (omega arith);
+  }
+
+  pub found_none : j ≡ n → FirstOf test n j
+  found_none e = record {
+    upto = omega arith;
+    hit = λ l. absurd (omega arith);
+    miss = λ _. rw (← e) before;
   }

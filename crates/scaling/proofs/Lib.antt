@@ -38,7 +38,7 @@ pub mod ThirdStage
 pub mod Filling
 -- ---- the build
 --     Diagonal          the identity, one entry of the diagonal after the other
---     MatrixC           the entries of C as the code finds them, and bounds of a well_formed problem
+--     MatrixC           the entries of C as the code finds them, and bounds of a well-formed problem
 --     Starting          the start is the definition's
 --     Running           the run is the definition's
 --     Building          from the run to H, V and W as they are lent out, or refusal 7

@@ -4,7 +4,7 @@ use mir.Syntax.{w32}
 use mir.Val.{SFits}
 use borrow.Author.Rules.{rules}
 use Rattle.rules.specs.Bytes.{longs}
-use Rattle.bench.proofs.Bytes.{decoded_suc}
+use Rattle.bench.proofs.Rooms.{decoded_suc}
 use Rattle.bench.proofs.words.decode.Goals as goal
 
 pub loop-i-init : goal.loop-i-init
