@@ -33,7 +33,7 @@ use Rattle.demands.proofs.NormalForms.{Accepted}
 use Rattle.demands.proofs.Formulas.{back_same}
 use Rattle.demands.proofs.InputLines.{line_at, m_said, n_said, WellFormedInput, problem_said, formula_said}
 use Rattle.demands.proofs.InputSays.{terms_said, coefficient_said, term_said}
-use Rattle.demands.proofs.Program.{shown, Answers, accepted, program-answered}
+use Rattle.demands.proofs.Program.{shown, Answers, program-answered}
 use Rattle.demands.proofs.OutputLines.{numbers_on}
 use Rattle.demands.proofs.ReadBack.{SolutionLines}
 use Rattle.demands.proofs.Printout.{Taken, refusal-printed, solution_printed, solution_exactly}

@@ -1,9 +1,8 @@
 -- What it gathers of the readings and hands on is a call of gauges::gauge, whose two cases it tells in plain numbers.
-use Rattle.std.proofs.Common.{◌≡◌, refl, sym, ap, ◌∙◌, subst}
+use Rattle.std.proofs.Common.{◌≡◌, refl, ◌∙◌, subst}
 use Rattle.rules.specs.Gauges as rules
 use Rattle.rules.specs.Gauges.{gauge_answer}
 use Rattle.checks.specs.Checks.{given}
-use Rattle.gauges.specs.Gauging.{told}
 use Rattle.bench.specs.declared.GaugeAnswer.{GaugeAnswer}
 use Rattle.bench.specs.GaugePromise.{Gauges}
 use Rattle.bench.proofs.GaugeCall.{gathered_same}

@@ -1,5 +1,5 @@
 -- What it hears of the bytes and hands on is a call of formulas::translate, and proofs/TranslateCall does the rest.
-use Rattle.std.proofs.Common.{◌≡◌, ℕ, ℤ, List, pos, length, take, drop, arith, refl, ◌∙◌}
+use Rattle.std.proofs.Common.{◌≡◌, ℕ, ℤ, List, pos, take, drop, arith, refl, ◌∙◌}
 use lib.ListN.{replicate}
 use Rattle.rules.specs.Calls.{translate_of}
 use Rattle.checks.specs.Checks.{given}
