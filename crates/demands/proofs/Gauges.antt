@@ -1,5 +1,5 @@
 -- Section 22 of the rules, groups from the gauges (order 2). Each theorem follows from what a call promises of its answer, x ≡ gauge_of P R g:
--- of gauges::gauge x is what its answer says (told), of glaukemis_gauge its fields are those of the answer in plain numbers (c-gauge below).
+-- of gauges::gauge x is what its answer says (told), of glaukemis_gauge its fields are those of the answer in plain numbers (c_gauge_.. below).
 -- P is the problem, R the set of readings and g the group's number as they were given, whatever they are.
 -- The definitions that the theorems speak of stand in rules/specs/Gauges; `positive` (lib.Ieee) says of a number that it is finite and above zero.
 use mathlib.Core.Path.{◌≡◌, refl, sym, ◌∙◌, ap, subst}

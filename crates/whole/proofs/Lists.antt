@@ -1,8 +1,8 @@
 -- Lists read at an index: those that tab and join of specs/Lists make, and those that hold a table row after row, entry (r, c) of width w at index r * w + c.
 -- Stated with get_or and any default d; nth is get_or at the default 0. The kit has already:
---     lib.ListN   ListN.get_or-append (the first part of ++), List·getD-eq-default (past the end), List·getD-map (so nth of `map neg_ℤ xs`: negℤ (pos 0) is pos 0)
---     lib.Seq     get_or-append-add (the second part of ++), getD-set-same and getD-set-other, ext_get_or (two lists equal by their entries)
---     lib.Arith   digits-lt (r * w + c is below n * w), digits_div and digits_mod (r and c of r * w + c)
+--     lib.ListN   get_or-append (the first part of ++), get_or-eq_default (past the end), get_or-map (so nth of `map neg_ℤ xs`: neg_ℤ (pos 0) is pos 0)
+--     lib.Seq     get_or-append-add (the second part of ++), get_or-set_same and get_or-set_other, ext_get_or (two lists equal by their entries)
+--     lib.Arith   digits_lt (r * w + c is below n * w), digits_div and digits_mod (r and c of r * w + c)
 use mathlib.Core.Path.{◌≡◌, refl, sym, ◌∙◌, ap, ap₂}
 use mathlib.Core.List.{List, [], ◌∷◌, ◌++◌, map}
 use Prim.Native.Nat.{ℕ, zero, suc, ◌+◌, ◌*◌, ◌-◌, ◌/◌, ◌%◌, ◌≤◌, ◌<◌}
@@ -32,7 +32,7 @@ nth-replicate zero a i = refl
 nth-replicate (suc n) a zero = refl
 nth-replicate (suc n) a (suc i) = nth-replicate n a i
 
--- List·getD-map of lib.ListN, for an index in the list and any two defaults
+-- get_or-map of lib.ListN, for an index in the list and any two defaults
 pub get_d_map {ℓ κ} : {A : Type ℓ} {B : Type κ} (f : A → B) (xs : List A) (i : ℕ) (a : A) (b : B) → i < length xs
     → get_or (map f xs) i b ≡ f (get_or xs i a)
 get_d_map f [] i a b h = absurd (omega arith)

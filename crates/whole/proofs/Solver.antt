@@ -1,5 +1,5 @@
 -- Ring identities over ℤ, proved by computing: both sides are written once more as expressions, and their difference has the normal form 0.
---     undone : (a b q : ℤ) → (a +ℤ q *ℤ b) +ℤ negℤ q *ℤ b ≡ a
+--     undone : (a b q : ℤ) → (a +ℤ q *ℤ b) +ℤ neg_ℤ q *ℤ b ≡ a
 --     undone a b q = ring₃ a b q (λ a b q. (a ⊕ q ⊗ b) ⊕ ⊝ q ⊗ b ≟ a) tt
 -- The number in the name is that of the variables. Any terms may stand for them (`ring₂ (f i) (sum n g) ..`); a literal is `con (pos 1)`.
 -- The expressions have to spell the sides as they stand, with their brackets. Where `tt` is refused the identity is false.

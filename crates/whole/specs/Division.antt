@@ -1,5 +1,5 @@
 -- The floored quotient: the largest whole number that is no larger than a divided by b.
--- (The quotient cut toward zero and its remainder are the language's own, quotZ and remZ of lib.Signed.)
+-- (The quotient cut toward zero and its remainder are the language's own, quot_z and rem_z of lib.Signed.)
 use Rattle.std.specs.Prelude.{zero, suc, ◌/◌, ℤ, pos, negsuc}
 
 -- by the signs of a and b; negsuc a is -(a + 1)
