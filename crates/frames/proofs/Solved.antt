@@ -8,9 +8,9 @@ use native.Mathlib.Nat.{mul-le-mul}
 use native.Mathlib.Omega.{arith}
 use borrow.Author.Tests.{le-leb}
 use lib.Dec.{leb}
-use lib.ListN.{length, take, drop, length-append, length-drop, take-append-drop}
+use lib.ListN.{length, take, drop, replicate, length-replicate, length-append, length-drop, take-append-drop}
 use lib.Seq.{take_at}
-use lib.IntN.{ℤ}
+use lib.IntN.{ℤ, pos}
 use Rattle.rules.specs.Problem.{N}
 use Rattle.rules.specs.Stages.{run}
 use Rattle.rules.specs.Formulas.{d, terms}
@@ -28,6 +28,13 @@ use Rattle.frames.specs.Input.{Sized, problem_in, formula_in}
 use Rattle.frames.specs.Output.{Room, solution_text, sizes_text, IsTranslated}
 use Rattle.frames.proofs.Printed.{rows_same, terms-front}
 use Rattle.frames.proofs.Fits.{filled-room, few-moduli, coefficients-length, problem-fits, formula-fits}
+
+-- ---- the arrays that the code lends for the outputs
+abbrev pub fresh : (count : ℕ) → List ℤ
+fresh count = replicate count (pos 0)
+
+pub room : (count : ℕ) → length (fresh count) ≡ count
+room count = length-replicate count (pos 0)
 
 module _ {x : Input} (z : Sized x) where
   -- ---- the translation

@@ -46,12 +46,6 @@ module _ (x r : Float) where
       let e : pos (suc k) -ℤ pos 1 ≡ pos k = omega (zarith, -is (pos (suc k)) (pos 1)) in
       rw e (unit-less (mul binary64 r x) (pos (suc k)) (pos k) (record { sfits = omega arith }) (omega arith) refl)
 
--- ---- by the number itself
-pub all_quotient : (x r : Float) (e : ℤ) → lt_z e (pos 0) ≡ true → all x (div binary64 r x) (e +ℤ pos 1) ≡ all x r e
-all_quotient x r (pos k) t = absurd (omega (arith, ltb-true k 0 t))
-all_quotient x r (negsuc zero) t = refl
-all_quotient x r (negsuc (suc k)) t = let e : negsuc (suc k) +ℤ pos 1 ≡ negsuc k = omega (zarith, +is (negsuc (suc k)) (pos 1)) in rw e refl
-
 -- ---- by the bits of e
 any_bits : (b : ℕ) → SFits w32 (to_z w32 b)
 any_bits b = go (lt? b (2 ^ 31))

@@ -4,8 +4,13 @@ use Rattle.frames.proofs.Digits.{part-digits}
 use Rattle.frames.proofs.Lines.{frame-room, frame-digits}
 use Rattle.frames.proofs.Progress.{refusal-holds, first_off, sizes-off, sizes_on, row_asks, row_on, row-off, term_asks, term_on_lem, term-off, full-off, end_holds}
 use Rattle.frames.proofs.read.read.Goals as goal
+use Rattle.frames.proofs.read.read.Goals.{Else-not-starts_frame}
 
 -- ---- the first line
+-- it is of its form
+sized : (c : Else-not-starts_frame) → starts_frame 1 6 c.args.text.now ≡ true
+sized c = sym c.starts_frame.ensures ∙ c.if-not-starts_frame.false
+
 pub returns-then-not-starts_frame : goal.returns-then-not-starts_frame
 returns-then-not-starts_frame c =
     let g : starts_frame 1 6 c.args.text.now ≡ false = sym c.starts_frame.ensures ∙ c.if-not-starts_frame.true in
@@ -13,34 +18,34 @@ returns-then-not-starts_frame c =
 
 pub byte-m-requires-clause-at_in_bounds : goal.byte-m-requires-clause-at_in_bounds
 byte-m-requires-clause-at_in_bounds c =
-    let g : starts_frame 1 6 c.args.text.now ≡ true = sym c.starts_frame.ensures ∙ c.if-not-starts_frame.false in
+    let g = sized (goal.at.byte-m-requires-clause-at_in_bounds c).Else-not-starts_frame in
     omega (arith, frame-room c.args.text.now 0 1 6 g)
 
 pub byte-m-requires-clause-text_value : goal.byte-m-requires-clause-text_value
 byte-m-requires-clause-text_value c =
-    let g : starts_frame 1 6 c.args.text.now ≡ true = sym c.starts_frame.ensures ∙ c.if-not-starts_frame.false in
+    let g = sized (goal.at.byte-m-requires-clause-text_value c).Else-not-starts_frame in
     part-digits c.args.text.now 0 6 2 2 (frame-digits c.args.text.now 0 1 6 g) (omega arith)
 
 pub byte-n-requires-clause-at_in_bounds : goal.byte-n-requires-clause-at_in_bounds
 byte-n-requires-clause-at_in_bounds c =
-    let g : starts_frame 1 6 c.args.text.now ≡ true = sym c.starts_frame.ensures ∙ c.if-not-starts_frame.false in
+    let g = sized (goal.at.byte-n-requires-clause-at_in_bounds c).Else-not-starts_frame in
     omega (arith, frame-room c.args.text.now 0 1 6 g)
 
 pub byte-n-requires-clause-text_value : goal.byte-n-requires-clause-text_value
 byte-n-requires-clause-text_value c =
-    let g : starts_frame 1 6 c.args.text.now ≡ true = sym c.starts_frame.ensures ∙ c.if-not-starts_frame.false in
+    let g = sized (goal.at.byte-n-requires-clause-text_value c).Else-not-starts_frame in
     part-digits c.args.text.now 0 6 4 2 (frame-digits c.args.text.now 0 1 6 g) (omega arith)
 
 pub returns-then-not-sizes_in_range : goal.returns-then-not-sizes_in_range
 returns-then-not-sizes_in_range c =
-    let g : starts_frame 1 6 c.args.text.now ≡ true = sym c.starts_frame.ensures ∙ c.if-not-starts_frame.false in
+    let g = sized (goal.at.returns-then-not-sizes_in_range c).Else-not-starts_frame in
     refusal-holds 1 0 c.new-then-not-sizes_in_range.ensures (λ e. omega arith)
     (sizes-off c.args.text.now _ _ c.byte-m.ensures c.byte-n.ensures g (sym c.sizes_in_range.ensures ∙ c.if-not-sizes_in_range.true))
 
 -- ---- the matrix lines
 pub loop-i-init : goal.loop-i-init
 loop-i-init c =
-    let g : starts_frame 1 6 c.args.text.now ≡ true = sym c.starts_frame.ensures ∙ c.if-not-starts_frame.false in
+    let g = sized (goal.at.loop-i-init c).Else-not-starts_frame in
     sizes_on c.args.text.now _ _ c.byte-m.ensures c.byte-n.ensures g (sym c.sizes_in_range.ensures ∙ c.if-not-sizes_in_range.false) c.new-input.ensures
 
 pub returns-then-not-starts_frame-2 : goal.returns-then-not-starts_frame-2

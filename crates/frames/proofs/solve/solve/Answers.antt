@@ -1,14 +1,6 @@
-use Rattle.std.proofs.Common.{◌≡◌, ℕ, List, ℤ, pos, length, replicate, ◌∙◌}
-use lib.ListN.{length-replicate}
-use Rattle.frames.proofs.Solved.{refused-text, verdict_is, is_translated}
+use Rattle.std.proofs.Common.{◌∙◌}
+use Rattle.frames.proofs.Solved.{fresh, room, refused-text, verdict_is, is_translated}
 use Rattle.frames.proofs.solve.solve.Goals as goal
-
--- the arrays that are lent for the outputs
-abbrev fresh : (count : ℕ) → List ℤ
-fresh count = replicate count (pos 0)
-
-room : (count : ℕ) → length (fresh count) ≡ count
-room count = length-replicate count (pos 0)
 
 pub returns-then-number-ne0 : goal.returns-then-number-ne0
 returns-then-number-ne0 c =
