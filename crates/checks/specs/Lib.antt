@@ -1,4 +1,6 @@
--- Checks   what an answer says of the verdict of checks 1 to 5, and to 6: `problem`, `formula`
--- Moduli   the rows with a modulus: `modulus_rows`
+-- Lent       a problem as it is lent, and its rows with a modulus: `Checked`, `modulus_rows`
+-- Refusals   the number and the place of each refusal, and what an answer says of a verdict
+-- Checks     what checks 1 to 5, and to 6, answer: `problem`, `formula`
+pub mod Lent
+pub mod Refusals
 pub mod Checks
-pub mod Moduli

@@ -2,14 +2,19 @@
 // a condition on its caller.
 #![tactic(auto)]
 
-ghost use Rattle.std.specs.Prelude.{◌≡◌, ◌&&◌, ◌<◌};
+ghost use Rattle.std.specs.Prelude.{◌≡◌};
 ghost use Rattle.rules.specs.Limits as limits;
+ghost use Rattle.checks.specs.Lent.{first8};
 ghost use Rattle.checks.specs.Checks.{TellsTo5, TellsTo6};
-ghost use Rattle.checks.specs.Moduli.{With, ListsFirst8};
+ghost use Rattle.checks.specs.Refusals.{number_of, place_of};
 
+mod lent;
 mod parts;
 
-use parts::{at_most_8, first_out, formula_fits, problem_fits};
+use arrayvec::ArrayVec;
+pub use lent::Checked;
+use parts::{first_out, formula_fits, problem_fits};
+use std::fmt;
 
 // The limits of R2.1 to R2.6, and the least lengths of outputs (R2.9).
 pub const M: i64 = 2147483647;
@@ -40,145 +45,139 @@ const MOST_EXPONENT: i32 = 10000;
 
 const LEAST_EXPONENT: i32 = -10000;
 
-// A number and a place; the number 0 says that nothing was found.
-#[derive(Clone, Copy)]
-pub struct Refusal {
-    pub number: u32,
-    pub place: u32,
+// The faults 1 to 10 of section 4 of the rules. One that has a place carries it.
+#[derive(Clone, Copy, Debug, PartialEq, Eq)]
+pub enum Refusal {
+    Sizes,
+    Lengths,
+    Outputs,
+    Modulus(u32),
+    Entry(u32),
+    Exponent(u32),
+    Overflow,
+    NotFree(u32),
+    LargeExponent(u32),
+    BadLine(u32),
 }
 
-// The rows with a modulus, from the top row down, and their count s.
-#[derive(Clone, Copy)]
-pub struct ModulusRows {
-    pub rows: [usize; 8],
-    pub s: usize,
+impl Refusal {
+    pub fn number(self) -> u32
+        ensures { result ≡ number_of self }
+    {
+        match self {
+            Refusal::Sizes => 1,
+            Refusal::Lengths => 2,
+            Refusal::Outputs => 3,
+            Refusal::Modulus(_) => 4,
+            Refusal::Entry(_) => 5,
+            Refusal::Exponent(_) => 6,
+            Refusal::Overflow => 7,
+            Refusal::NotFree(_) => 8,
+            Refusal::LargeExponent(_) => 9,
+            Refusal::BadLine(_) => 10,
+        }
+    }
+
+    // 0 for a fault that has no place of its own.
+    pub fn place(self) -> u32
+        ensures { result ≡ place_of self }
+    {
+        match self {
+            Refusal::Sizes | Refusal::Lengths | Refusal::Outputs | Refusal::Overflow => 0,
+            Refusal::Modulus(i)
+            | Refusal::Entry(i)
+            | Refusal::Exponent(i)
+            | Refusal::NotFree(i)
+            | Refusal::LargeExponent(i)
+            | Refusal::BadLine(i) => i,
+        }
+    }
 }
 
-// The prover covers no `&&`.
-pub fn both(a: bool, b: bool) -> bool
-    ensures { result ≡ a && b }
-{
-    if a { b } else { false }
-}
-
-pub fn is_zero(x: i32) -> bool
-    ensures { result ≡ limits.is_zero x }
-{
-    x == 0
+impl fmt::Display for Refusal {
+    fn fmt<W: fmt::Write>(&self, f: &mut fmt::Formatter<W>) -> fmt::Result {
+        write!(f, "refused {} at {}", self.number(), self.place())
+    }
 }
 
 // Whether z is beyond M, either way.
 pub fn beyond(z: i64) -> bool
     ensures { result ≡ limits.beyond z }
 {
-    if z < MINUS_M { true } else { M < z }
+    z < MINUS_M || M < z
 }
 
 // Check 1.
 pub fn sizes_in_range(m: u32, n: u32) -> bool
     ensures { result ≡ limits.sizes_in_range m n }
 {
-    both(both(1 <= m, m <= 8), both(1 <= n, n <= 16))
+    1 <= m && m <= 8 && 1 <= n && n <= 16
 }
 
 // 1 to 5; `more` says that the inputs other than matrix and moduli have the right lengths, `outputs` that no output is too short.
-pub fn problem(m: u32, n: u32, matrix: &[i32], moduli: &[i32], more: bool, outputs: bool) -> Refusal
+pub fn problem<'a>(
+    m: u32,
+    n: u32,
+    matrix: &'a [i32],
+    moduli: &'a [i32],
+    more: bool,
+    outputs: bool,
+) -> Result<Checked<'a>, Refusal>
     ensures { TellsTo5 m n matrix.now moduli.now more outputs result }
 {
     if !sizes_in_range(m, n) {
-        return Refusal {
-            number: 1,
-            place: 0,
-        };
+        return Err(Refusal::Sizes);
     }
-    if !both(problem_fits(m, n, matrix.len(), moduli.len()), more) {
-        return Refusal {
-            number: 2,
-            place: 0,
-        };
+    if !(problem_fits(m, n, matrix.len(), moduli.len()) && more) {
+        return Err(Refusal::Lengths);
     }
     if !outputs {
-        return Refusal {
-            number: 3,
-            place: 0,
-        };
+        return Err(Refusal::Outputs);
     }
-    let i = first_out(moduli, 0, MOST_MODULUS);
-    if i < moduli.len() {
-        return Refusal {
-            number: 4,
-            place: i as u32,
-        };
+    if let Some(i) = first_out(moduli, 0, MOST_MODULUS) {
+        return Err(Refusal::Modulus(i as u32));
     }
-    let j = first_out(matrix, LEAST_ENTRY, MOST_ENTRY);
-    if j < matrix.len() {
-        return Refusal {
-            number: 5,
-            place: j as u32,
-        };
+    if let Some(j) = first_out(matrix, LEAST_ENTRY, MOST_ENTRY) {
+        return Err(Refusal::Entry(j as u32));
     }
-    Refusal {
-        number: 0,
-        place: 0,
-    }
+    Ok(Checked {
+        n: n as usize,
+        matrix: matrix,
+        moduli: moduli,
+        rows: modulus_rows(moduli),
+    })
 }
 
 // 1 to 6, with the exponents of so many terms.
-pub fn formula(
+pub fn formula<'a>(
     m: u32,
     n: u32,
-    matrix: &[i32],
-    moduli: &[i32],
+    matrix: &'a [i32],
+    moduli: &'a [i32],
     terms: usize,
     exponents: &[i32],
     outputs: bool,
-) -> Refusal
+) -> Result<Checked<'a>, Refusal>
     ensures { TellsTo6 m n matrix.now moduli.now terms exponents.now outputs result }
 {
     let more = formula_fits(n, terms, exponents.len());
-    let c = problem(m, n, matrix, moduli, more, outputs);
-    let number = c.number;
-    if number != 0 {
-        return c;
-    }
-    let i = first_out(exponents, LEAST_EXPONENT, MOST_EXPONENT);
-    if i < exponents.len() {
-        return Refusal {
-            number: 6,
-            place: i as u32,
-        };
-    }
-    Refusal {
-        number: 0,
-        place: 0,
-    }
-}
-
-impl ModulusRows {
-    // Row i is listed next.
-    fn with(mut self, i: usize) -> ModulusRows
-        requires { self.s < 8 }
-        ensures { With self i result }
-    {
-        let s = self.s;
-        self.rows[s] = i;
-        self.s = s + 1;
-        self
+    let checked = problem(m, n, matrix, moduli, more, outputs)?;
+    match first_out(exponents, LEAST_EXPONENT, MOST_EXPONENT) {
+        Some(i) => Err(Refusal::Exponent(i as u32)),
+        None => Ok(checked),
     }
 }
 
 // The rows with a modulus among the first eight.
-pub fn modulus_rows(moduli: &[i32]) -> ModulusRows
-    ensures { ListsFirst8 moduli.now result }
+pub fn modulus_rows(moduli: &[i32]) -> ArrayVec<usize, 8>
+    ensures { result.items ≡ first8 moduli.now }
 {
-    let count = at_most_8(moduli.len());
-    let mut r = ModulusRows { rows: [0; 8], s: 0 };
-    let mut i = 0;
-    while i < count {
-        if !is_zero(moduli[i]) {
-            r = r.with(i);
+    let first = &moduli[..moduli.len().min(8)];
+    let mut rows = ArrayVec::new();
+    for (i, p) in first.iter().enumerate() {
+        if *p != 0 {
+            rows.push(i);
         }
-        i += 1;
     }
-    r
+    rows
 }

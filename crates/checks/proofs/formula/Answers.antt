@@ -1,35 +1,33 @@
-use Rattle.std.proofs.Common.{◌≡◌, ℕ, ℤ, Bool, List, length, arith, eqb, leb, subst, refl, sym, ◌∙◌, ◌*◌, ◌∷◌, [], mul-le-mul}
-use borrow.Author.Tests.{eqb-true, leb-true}
-use Rattle.whole.proofs.Tests.{and_both}
+-- `formula`: the last check, of the exponents.
+use Rattle.std.proofs.Common.{length, subst, refl, sym, ap, ◌∙◌, [], ◌∷◌}
+use Rattle.rules.specs.Limits.{exponent_in_range}
 use Rattle.rules.specs.Calls.{exponents_check}
-use Rattle.checks.specs.declared.Refusal.{Refusal}
-use Rattle.checks.specs.Checks.{takes, terms_fit, TellsTo5}
-use Rattle.checks.proofs.Verdicts.{refuses-here, says-next, problem-passed, past_5}
+use Rattle.checks.specs.Checks.{finding, terms_fit, TellsTo5}
+use Rattle.checks.proofs.Found.{out-position}
+use Rattle.checks.proofs.Verdicts.{refuses-here, says-next, past_5}
 use Rattle.checks.proofs.formula.Goals as goal
+use Rattle.checks.proofs.formula.Goals.{After-first_out}
 
 -- the problem's checks, with the formula's lengths among them
-told : {m n : ℕ} {matrix moduli : List ℤ} {b outputs : Bool} (terms exponents : ℕ) {r : Refusal} → b ≡ terms_fit n terms exponents
-    → TellsTo5 m n matrix moduli b outputs r → TellsTo5 m n matrix moduli (terms_fit n terms exponents) outputs r
-told {m} {n} {matrix} {moduli} {b} {outputs} terms exponents {r} e t = subst (λ x. TellsTo5 m n matrix moduli x outputs r) e t
+told : (c : After-first_out) → TellsTo5 c.args.m c.args.n c.args.matrix.now c.args.moduli.now (terms_fit c.args.n c.args.terms (length c.args.exponents.now)) c.args.outputs c.problem.result
+told c = subst (λ x. TellsTo5 c.args.m c.args.n c.args.matrix.now c.args.moduli.now x c.args.outputs c.problem.result) c.formula_fits-more.ensures c.problem.ensures
 
-pub overflow_cast-result : goal.overflow_cast-result
-overflow_cast-result c =
-    let p = problem-passed c.problem-c.ensures c.if-number-ne0.false in
-    let l = and_both (eqb (length c.args.exponents.now) (c.args.terms * c.args.n)) (leb c.args.terms 64) (sym c.formula_fits-more.ensures ∙ p.also) in
-    omega (arith, eqb-true (length c.args.exponents.now) (c.args.terms * c.args.n) l.0, mul-le-mul (leb-true c.args.terms 64 l.1) p.well_formed.n-high)
-
-pub returns-then-i-exponents : goal.returns-then-i-exponents
-returns-then-i-exponents c =
-    let e = c.args.exponents.now in
+pub returns-in-Some : goal.returns-in-Some
+returns-in-Some c =
+    let t = (goal.at.returns-in-Some c).After-first_out in
+    let e = exponents_check c.args.exponents.now in
     record {
-      says = rw (past_5 (told c.args.terms (length e) c.formula_fits-more.ensures c.problem-c.ensures) c.if-number-ne0.false (exponents_check e ∷ []))
-          (refuses-here (exponents_check e) [] c.first_out-i.result (λ e. omega arith) (c.first_out-i.ensures.hit c.if-i-exponents.true));
+      says = rw (past_5 (told t) t.in_ok-checked.was (e ∷ [])) (refuses-here e [] c.in-Some.i
+          (sym (out-position exponent_in_range c.args.exponents.now) ∙ ap finding (sym c.first_out.ensures ∙ c.in-Some.is)));
+      same = tt;
     }
 
-pub returns : goal.returns
-returns c =
-    let e = c.args.exponents.now in
+pub returns-in-None : goal.returns-in-None
+returns-in-None c =
+    let t = (goal.at.returns-in-None c).After-first_out in
+    let e = exponents_check c.args.exponents.now in
     record {
-      says = rw (past_5 (told c.args.terms (length e) c.formula_fits-more.ensures c.problem-c.ensures) c.if-number-ne0.false (exponents_check e ∷ []))
-          (says-next (exponents_check e) [] (c.first_out-i.ensures.miss (omega (arith, c.first_out-i.ensures.upto))) (takes refl refl));
+      says = rw (past_5 (told t) t.in_ok-checked.was (e ∷ [])) (says-next e []
+          (sym (out-position exponent_in_range c.args.exponents.now) ∙ ap finding (sym c.first_out.ensures ∙ c.in-None.is)) refl);
+      same = (rw t.in_ok-checked.was at (told t).same);
     }

@@ -1,25 +1,29 @@
-use Rattle.std.proofs.Common.{◌≡◌, ◌<◌, length, arith, sym, ◌∙◌, add-one}
-use Rattle.std.proofs.lemmas.Int.{to_z-of_z}
+-- `modulus_rows`: each modulus is passed over or its row listed.
+use Rattle.std.proofs.Common.{◌≡◌, refl, suc, ◌<◌, ◌++◌, ◌∷◌, [], length, take, arith, rules, add-one, ap, sym, ◌∙◌}
+use borrow.Author.Tests.{eq-eqb, ne_eqb}
 use mir.Syntax.{w32}
 use mir.Val.{SFits}
-use borrow.Author.Rules.{rules}
 use Rattle.whole.specs.Lists.{nth}
-use Rattle.rules.specs.Limits.{is_zero}
-use Rattle.checks.proofs.Listing.{listed-none, listed_with, listed-passed}
+use Rattle.checks.proofs.Values.{zero_bits}
+use Rattle.checks.proofs.Listing.{rows_to, listed_with, listed-passed, none-listed}
 use Rattle.checks.proofs.modulus_rows.Goals as goal
-use Rattle.checks.proofs.modulus_rows.Goals.{then-not-is_zero, else-not-is_zero}
+use Rattle.checks.proofs.modulus_rows.Goals.{then-p-ne0, else-p-ne0}
 
 pub loop-i-init : goal.loop-i-init
-loop-i-init c = (omega arith, listed-none _)
+loop-i-init c = rw c.new-rows.ensures (none-listed (take c.min.result c.args.moduli.now), omega arith)
 
 pub loop-i-preserved : goal.loop-i-preserved
 loop-i-preserved c =
-    let h : c.loop-i.i < length c.args.moduli.now = omega arith in
-    let t : c.is_zero.result ≡ is_zero (nth c.args.moduli.now c.loop-i.i) =
-    (let f : SFits w32 (nth c.args.moduli.now c.loop-i.i) = search rules in simp to_z-of_z at c.is_zero.ensures) in (
-      omega arith,
-      rw add-one (elim c.if-not-is_zero.branch [
-        | then-not-is_zero w ↦ rw w.r-is (listed_with c.loop-i.invariant.1 h (sym t ∙ w.if-not-is_zero.true) (omega arith) w.with-r.ensures)
-        | else-not-is_zero w ↦ rw w.r-is (listed-passed c.loop-i.invariant.1 h (sym t ∙ w.if-not-is_zero.false))
-      ]),
-    )
+    let first = take c.min.result c.args.moduli.now in
+    let x : SFits w32 (nth first c.loop-i.i) = search rules in
+    let zero = zero_bits w32 refl (nth first c.loop-i.i) x in
+    let h : c.loop-i.i < length first = search rules in
+    rw add-one (elim c.if-p-ne0.branch [
+      | then-p-ne0 w ↦
+          let e : w.push.new.self.items ≡ rows_to first (suc c.loop-i.i) =
+          w.push.ensures.items ∙ ap (λ l. l ++ c.loop-i.i ∷ []) c.loop-i.invariant.0
+          ∙ sym (listed_with first c.loop-i.i h (sym zero ∙ ne_eqb _ 0 w.if-p-ne0.true)) in
+          rw w.rows-is (e, omega arith)
+      | else-p-ne0 w ↦
+          rw w.rows-is (c.loop-i.invariant.0 ∙ sym (listed-passed first c.loop-i.i h (sym zero ∙ eq-eqb _ 0 w.if-p-ne0.false)), omega arith)
+    ])
