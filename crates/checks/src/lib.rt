@@ -35,6 +35,8 @@ pub const ROOM_COEFFICIENTS: usize = 64;
 
 pub const ROOM_EXPONENTS: usize = 1024;
 
+const NO_MODULUS: i32 = 0;
+
 const MOST_MODULUS: i32 = 1000;
 
 const MOST_ENTRY: i32 = 1000;
@@ -175,7 +177,7 @@ pub fn modulus_rows(moduli: &[i32]) -> ArrayVec<usize, 8>
     let first = &moduli[..moduli.len().min(8)];
     let mut rows = ArrayVec::new();
     for (i, p) in first.iter().enumerate() {
-        if *p != 0 {
+        if *p != NO_MODULUS {
             rows.push(i);
         }
     }
