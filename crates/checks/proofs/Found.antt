@@ -1,11 +1,9 @@
 -- The library's search along a list, as the definitions' search over indices.
-use Rattle.std.proofs.Common.{◌≡◌, nat_lt, ℕ, suc, zero, ◌+◌, ◌<◌, ◌≤◌, ℤ, List, [], ◌∷◌, Bool, true, false, not, length, Option, Some, None, arith, sym, refl, cond}
-use borrow.Author.Tests.{ltb-false}
+use Rattle.std.proofs.Common.{◌≡◌, ℕ, ◌<◌, ◌≤◌, ℤ, List, Bool, true, not, length, get_or, Some, None, cond, arith, refl}
 use Rattle.std.specs.List.{position, position_or_len}
-use Rattle.std.proofs.lemmas.List.Quantifiers.{position-Some}
+use Rattle.std.proofs.lemmas.List.Sums.{fails_before_first, passes_at_first}
 use lib.IntN.{pos}
-use Rattle.whole.specs.Lists.{nth}
-use Rattle.whole.proofs.Tests.{true-not-false}
+use Rattle.whole.proofs.Tests.{true-not-false, Test, pass, fail, lt?}
 use Rattle.rules.specs.Search.{Found, none, found, first}
 use Rattle.rules.specs.Calls.{first_out}
 use Rattle.theory.proofs.Search.{In, Nowhere, FirstIs, no_first, is_first, first_is_lem}
@@ -24,33 +22,19 @@ pub first-found : (test : ℕ → Bool) (lo hi j : ℕ) → In lo hi j → test 
 first-found test lo hi j i e z = first_hit test lo j hi i.low i.high (first-none test lo j z) e
 
 -- ---- position
-nowhere : (p : ℤ → Bool) (xs : List ℤ) → length xs ≤ position_or_len p xs → (k : ℕ) → k < length xs → p (nth xs k) ≡ false
-nowhere p [] h k l = absurd (omega arith)
-nowhere p (x ∷ xs) h k l = go (p x) refl (nowhere p xs) h k l
+pub first_position : {A : Type 0} (p : A → Bool) (d : A) (xs : List A) → first (λ j. p (get_or xs j d)) 0 (length xs) ≡ finding (position p xs)
+first_position p d xs = go (lt? (position_or_len p xs) (length xs))
   where
-    go : (b : Bool) → p x ≡ b → (length xs ≤ position_or_len p xs → (k : ℕ) → k < length xs → p (nth xs k) ≡ false)
-        → suc (length xs) ≤ cond (not b) (1 + position_or_len p xs) 0 → (k : ℕ) → k < suc (length xs) → p (nth (x ∷ xs) k) ≡ false
-    go true e r h k l = absurd (omega arith)
-    go false e r h zero l = e
-    go false e r h (suc k) l = r (omega arith) k (omega arith)
+    k : ℕ
+    k = position_or_len p xs
 
-none-upto : (p : ℤ → Bool) (xs : List ℤ) → position p xs ≡ None → length xs ≤ position_or_len p xs
-none-upto p xs e = go (nat_lt (position_or_len p xs) (length xs)) refl e
-  where
-    go : (b : Bool) → nat_lt (position_or_len p xs) (length xs) ≡ b → cond b (Some (position_or_len p xs)) None ≡ None → length xs ≤ position_or_len p xs
-    go true e f = let o : ◌≡◌ {A = ℕ} 0 1 = cc in omega arith
-    go false e f = ltb-false (position_or_len p xs) (length xs) e
-
-found-position : (p : ℤ → Bool) (xs : List ℤ) → finding (position p xs) ≡ first (λ k. p (nth xs k)) 0 (length xs)
-found-position p xs = go (position p xs) refl
-  where
-    go : (r : Option ℕ) → position p xs ≡ r → finding r ≡ first (λ k. p (nth xs k)) 0 (length xs)
-    go (Some i) e =
-        let x = position-Some p xs i (pos 0) e in
-        sym (first-found (λ k. p (nth xs k)) 0 (length xs) i (record { low = omega arith; high = x.0 }) x.1 (λ k l. x.2 k l.high))
-    go None e = sym (first-none (λ k. p (nth xs k)) 0 (length xs) (λ k l. nowhere p xs (none-upto p xs e) k l.high))
+    go : {b : Bool} → Test (k < length xs) (length xs ≤ k) b → first (λ j. p (get_or xs j d)) 0 (length xs) ≡ finding (cond b (Some k) None)
+    go (pass l) =
+        first-found (λ j. p (get_or xs j d)) 0 (length xs) k (record { low = omega arith; high = l }) (passes_at_first p xs d l)
+        (λ j i. fails_before_first p xs j d i.high)
+    go (fail l) = first-none (λ j. p (get_or xs j d)) 0 (length xs) (λ j i. let h = i.high in fails_before_first p xs j d (omega arith))
 
 -- the first number out of range
-pub out-position : (good : ℤ → Bool) (xs : List ℤ) → finding (position (λ x. not (good x)) xs) ≡ first_out good xs
+pub out-position : (good : ℤ → Bool) (xs : List ℤ) → first_out good xs ≡ finding (position (λ x. not (good x)) xs)
 unfolding first_out
-out-position good xs = found-position (λ x. not (good x)) xs
+out-position good xs = first_position (λ x. not (good x)) (pos 0) xs

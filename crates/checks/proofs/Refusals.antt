@@ -1,10 +1,9 @@
 -- A verdict tells one refusal, and an answer that tells a verdict is one only.
-use Rattle.std.proofs.Common.{◌≡◌, ℕ, List, Result, Ok, Err, zero, suc, refl, sym, ap, ◌∙◌, arith}
-use Rattle.rules.specs.Problem.{Problem, modulus_rows}
+use Rattle.std.proofs.Common.{◌≡◌, ◌≢◌, ℕ, zero, suc, refl, sym, ap, ◌∙◌, arith}
 use Rattle.rules.specs.Calls.{Verdict, taken, refused}
 use Rattle.checks.specs.declared.Refusal.{Refusal}
 use Rattle.checks.specs.declared.Refusal.TheVariants.{Sizes, Lengths, Outputs, Modulus, Entry, Exponent, Overflow, NotFree, LargeExponent, BadLine}
-use Rattle.checks.specs.Refusals.{refusal, told}
+use Rattle.checks.specs.Refusals.{number_of, refusal}
 
 -- the refusal of a number and a place
 abbrev back : (number place : ℕ) → Refusal
@@ -42,3 +41,16 @@ one_refusal {r} {r'} e = sym (back_refusal r) ∙ ap back_of e ∙ back_refusal 
 -- taken or refused, not both
 pub taken-refused : {number place : ℕ} → taken ≡ refused number place → ⊥
 taken-refused e = let o : ◌≡◌ {A = ℕ} 0 1 = cc in omega arith
+
+-- no refusal has the number 0
+pub refusal_not-0 : (e : Refusal) → number_of e ≢ 0
+refusal_not-0 Sizes h = absurd (omega arith)
+refusal_not-0 Lengths h = absurd (omega arith)
+refusal_not-0 Outputs h = absurd (omega arith)
+refusal_not-0 (Modulus i) h = absurd (omega arith)
+refusal_not-0 (Entry i) h = absurd (omega arith)
+refusal_not-0 (Exponent i) h = absurd (omega arith)
+refusal_not-0 Overflow h = absurd (omega arith)
+refusal_not-0 (NotFree i) h = absurd (omega arith)
+refusal_not-0 (LargeExponent i) h = absurd (omega arith)
+refusal_not-0 (BadLine i) h = absurd (omega arith)

@@ -1,16 +1,16 @@
 -- Single values: what 32 and 64 bits hold, and what a test says.
 -- A signed number is held as its bits: to_z w (of_z w z) is what is read back from those of z.
 use mathlib.Core.Path.{◌≡◌, refl, ap, sym, ◌∙◌}
-use mathlib.Core.Bool.{true, false, false≢true}
-use Prim.Native.Nat.{zero, suc, ◌^◌, ◌<◌, ◌≤◌}
+use mathlib.Core.Bool.{false}
+use Prim.Native.Nat.{suc, ◌<◌, ◌≤◌}
 use native.Mathlib.Omega.{arith}
-use lib.Dec.{T, eqb}
+use lib.Dec.{eqb}
 use lib.IntN.{ℤ, pos, negsuc, nat_abs, neg_ℤ, ◌+ℤ◌, ◌-ℤ◌, ◌*ℤ◌}
-use lib.Signed.{mag, lt_z, quot_z, non_neg}
+use lib.Signed.{quot_z}
 use mir.Syntax.{Width, w32, w64}
-use mir.Val.{SFits, to_z, of_z, hbits}
+use mir.Val.{SFits, to_z, of_z}
 use mir.Facts.{to_z-of_z}
-use borrow.Author.Tests.{ltb-true, ltb-false, lt-ltb, le-ltb, ne_eqb}
+use borrow.Author.Tests.{ltb-false, le-ltb, ne_eqb}
 use Rattle.whole.proofs.Order.{zarith, fits, fits-abs, abs_neg, abs-sub, product_size}
 use Rattle.whole.proofs.Division.{quot_le}
 use Rattle.rules.specs.Limits.{M, is_zero, beyond}
@@ -28,14 +28,6 @@ fits32 z h = fits w32 z (omega arith)
 
 widens : (z : ℤ) → SFits w32 z → SFits w64 z
 widens z f = fits64 z (omega (arith, abs32 z f))
-
--- an entry of a list that was read, by what the read tells of it
-pub held : (z : ℤ) → mag z < 2 ^ hbits w32 → to_z w32 (of_z w32 z) ≡ z
-held z g = to_z-of_z {w = w32} (record { sfits = g })
-
--- a number of 32 bits, read into 64
-pub cast_fits : (z : ℤ) → SFits w32 z → SFits w64 (to_z w32 (of_z w32 z))
-cast_fits z f = rw (to_z-of_z f) (widens z f)
 
 pub widened : (z : ℤ) → SFits w32 z → to_z w64 (of_z w64 (to_z w32 (of_z w32 z))) ≡ z
 widened z f = rw (to_z-of_z f) (to_z-of_z (widens z f))
@@ -56,15 +48,6 @@ neg-fits a h = fits64 (neg_ℤ a) (omega (arith, abs_neg a))
 pub sub-fits : (a b : ℤ) → nat_abs a ≤ 4294967296 → nat_abs b ≤ 4294967296 → SFits w64 (a -ℤ b)
 sub-fits a b h g = fits64 (a -ℤ b) (omega (arith, abs-sub a b))
 
--- ---- the two tests of `beyond`
-pub beyond-low : (z : ℤ) → lt_z z (negsuc 2147483646) ≡ true → true ≡ beyond z
-beyond-low (pos n) h = absurd (false≢true h)
-beyond-low (negsuc n) h = sym (lt-ltb M (suc n) (omega (arith, ltb-true 2147483646 n h)))
-
-pub beyond-high : (z : ℤ) → lt_z z (negsuc 2147483646) ≡ false → lt_z (pos 2147483647) z ≡ beyond z
-beyond-high (pos n) h = refl
-beyond-high (negsuc n) h = sym (le-ltb M (suc n) (omega (arith, ltb-false 2147483646 n h)))
-
 -- ---- what is stored
 pub within : (z : ℤ) → beyond z ≡ false → nat_abs z ≤ M
 within z e = ltb-false M (nat_abs z) e
@@ -76,23 +59,3 @@ not_beyond z h = le-ltb M (nat_abs z) h
 pub zero_bits : (w : Width) → to_z w 0 ≡ pos 0 → (x : ℤ) → SFits w x → eqb (of_z w x) 0 ≡ is_zero x
 zero_bits w z (pos n) f = refl
 zero_bits w z (negsuc n) f = ne_eqb (of_z w (negsuc n)) 0 (λ e. omega (zarith, sym (to_z-of_z f) ∙ ap (to_z w) e ∙ z)) ∙ sym (ne_eqb (suc n) 0 (λ e. omega arith))
-
-pub bits_pos : (y : ℤ) → nat_abs y ≤ 2147483648 → 0 < nat_abs y → 0 < of_z w64 y
-bits_pos (pos b) h l = l
-bits_pos (negsuc b) h l = omega arith
-
--- what a division of x by y asks
-pub divides : (x y : ℤ) → SFits w32 x → SFits w32 y → 0 < nat_abs y
-    → (0 < of_z w64 (to_z w32 (of_z w32 y))) × SFits w64 (quot_z (to_z w64 (of_z w64 (to_z w32 (of_z w32 x)))) (to_z w64 (of_z w64 (to_z w32 (of_z w32 y)))))
-divides x y fx fy h =
-    simp (to_z-of_z fy, to_z-of_z (widens y fy), widened x fx) (bits_pos y (abs32 y fy) h, quot_fits x y (omega (arith, abs32 x fx)))
-
--- ---- a test for a sign
-pub neg_nonneg : (x : ℤ) → lt_z x (pos 0) ≡ true → T (non_neg (neg_ℤ x))
-neg_nonneg (pos zero) e = tt
-neg_nonneg (pos (suc n)) e = absurd (omega (arith, ltb-true (suc n) 0 e))
-neg_nonneg (negsuc n) e = tt
-
-pub pos_nonneg : (x : ℤ) → lt_z x (pos 0) ≡ false → T (non_neg x)
-pos_nonneg (pos n) e = tt
-pos_nonneg (negsuc n) e = absurd (false≢true (sym e))

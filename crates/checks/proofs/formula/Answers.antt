@@ -18,7 +18,7 @@ returns-in-Some c =
     let e = exponents_check c.args.exponents.now in
     record {
       says = rw (past_5 (told t) t.in_ok-checked.was (e ∷ [])) (refuses-here e [] c.in-Some.i
-          (sym (out-position exponent_in_range c.args.exponents.now) ∙ ap finding (sym c.first_out.ensures ∙ c.in-Some.is)));
+          ((out-position exponent_in_range c.args.exponents.now) ∙ ap finding (sym c.first_out.ensures ∙ c.in-Some.is)));
       same = tt;
     }
 
@@ -28,6 +28,6 @@ returns-in-None c =
     let e = exponents_check c.args.exponents.now in
     record {
       says = rw (past_5 (told t) t.in_ok-checked.was (e ∷ [])) (says-next e []
-          (sym (out-position exponent_in_range c.args.exponents.now) ∙ ap finding (sym c.first_out.ensures ∙ c.in-None.is)) refl);
+          ((out-position exponent_in_range c.args.exponents.now) ∙ ap finding (sym c.first_out.ensures ∙ c.in-None.is)) refl);
       same = (rw t.in_ok-checked.was at (told t).same);
     }

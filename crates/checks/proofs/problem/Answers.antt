@@ -20,13 +20,13 @@ module _ (c : After-first_out) where
   inputs = elim c.if-problem_fits.branch [ then-problem_fits w ↦ search rules | else-problem_fits w ↦ search rules ]
 
 moduli : (c : After-first_out-2) → first_out modulus_in_range c.args.moduli.now ≡ none
-moduli c = sym (out-position modulus_in_range c.args.moduli.now) ∙ ap finding (sym c.first_out.ensures ∙ c.in_default.is)
+moduli c = (out-position modulus_in_range c.args.moduli.now) ∙ ap finding (sym c.first_out.ensures ∙ c.in_default.is)
 
 all : (c : After-modulus_rows) → taken ≡ verdict (to5 c.args.m c.args.n c.args.matrix.now c.args.moduli.now c.args.more c.args.outputs)
 all c =
     let t = (goal.at.invariant_of-result c).After-first_out in
     let u = (goal.at.invariant_of-result c).After-first_out-2 in
-    let p = sym (out-position entry_in_range c.args.matrix.now) ∙ ap finding (sym c.first_out-2.ensures ∙ c.in_default-first_out.is) in
+    let p = (out-position entry_in_range c.args.matrix.now) ∙ ap finding (sym c.first_out-2.ensures ∙ c.in_default-first_out.is) in
     rw (sizes t, inputs t, c.if-not-outputs.false, moduli u, p) refl
 
 passed : (c : After-modulus_rows) → Passed c.args.m c.args.n c.args.matrix.now c.args.moduli.now c.args.more c.args.outputs
@@ -35,14 +35,14 @@ passed c = five-passed c.args.m c.args.n c.args.matrix.now c.args.moduli.now c.a
 pub returns-in-Some : goal.returns-in-Some
 returns-in-Some c =
     let t = (goal.at.returns-in-Some c).After-first_out in
-    let p = sym (out-position modulus_in_range c.args.moduli.now) ∙ ap finding (sym c.first_out.ensures ∙ c.in-Some.is) in
+    let p = (out-position modulus_in_range c.args.moduli.now) ∙ ap finding (sym c.first_out.ensures ∙ c.in-Some.is) in
     record { says = rw (sizes t, inputs t, c.if-not-outputs.false, p) refl; same = tt }
 
 pub returns-in-Some-first_out : goal.returns-in-Some-first_out
 returns-in-Some-first_out c =
     let t = (goal.at.returns-in-Some-first_out c).After-first_out in
     let u = (goal.at.returns-in-Some-first_out c).After-first_out-2 in
-    let p = sym (out-position entry_in_range c.args.matrix.now) ∙ ap finding (sym c.first_out-2.ensures ∙ c.in-Some-first_out.is) in
+    let p = (out-position entry_in_range c.args.matrix.now) ∙ ap finding (sym c.first_out-2.ensures ∙ c.in-Some-first_out.is) in
     record { says = rw (sizes t, inputs t, c.if-not-outputs.false, moduli u, p) refl; same = tt }
 
 pub invariant_of-result : goal.invariant_of-result
