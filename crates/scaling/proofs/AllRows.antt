@@ -1,110 +1,125 @@
 -- All rows of a stage, as the code's loop goes through them: what is still to do is, of the definition's run, what was to do at first.
 use mathlib.Core.Path.{◌≡◌, refl, sym, ◌∙◌, ap}
-use mathlib.Core.Logic.{◌≢◌}
-use mathlib.Core.Bool.{Bool, true, false}
+use mathlib.Core.Bool.{true, false}
+use mathlib.Core.List.{List}
 use Prim.Native.Nat.{ℕ, suc, ◌+◌, ◌*◌, ◌-◌, ◌≤◌, ◌<◌}
 use native.Mathlib.Omega.{arith}
+use lib.IntN.{ℤ}
+use Rattle.std.specs.Prelude.{Some, None}
 use Rattle.rules.specs.Search.{smallest}
+use Rattle.rules.specs.Steps.{State}
 use Rattle.rules.specs.Stages.{Progress, row, rows}
 use Rattle.whole.proofs.Tests.{true-not-false}
-use Rattle.theory.proofs.Search.{In, smallest_cong}
+use Rattle.theory.proofs.Search.{In, smallest_cong, smallest-there, smallest-nowhere}
 use Rattle.theory.proofs.Loops.{rows_end, rows_step, row-pass}
 use Rattle.theory.proofs.Flag.{rows_over}
+use Rattle.scaling.specs.declared.work.Table.{Table}
 use Rattle.scaling.specs.declared.work.Work.{Work}
-use Rattle.scaling.specs.WorkState.{Fine, table_for, entries_for, height_for}
+use Rattle.scaling.specs.WorkState.{state_of, Tracks, table_for, height_for, RowOf}
 use Rattle.scaling.specs.Scan.{sizes}
 use Rattle.scaling.specs.Rows.{sizes_in, per_row, progress, RowBegun, RowDone, RowsBegun, RowsDone}
-use Rattle.theory.proofs.Search.{smallest-there, smallest-nowhere}
-use Rattle.scaling.proofs.State.{state_size, Long}
-use Rattle.scaling.proofs.Tracking.{over_tracks, same_tracks}
+use Rattle.scaling.proofs.State.{state_over}
+use Rattle.scaling.proofs.TableRow.{same-height, size_in}
+use Rattle.scaling.proofs.Tracking.{over_tracks, on_tracks}
 use Rattle.scaling.proofs.RowScan.{Best}
 
--- rows k to height are done, with a columns active
-pub record Rowed (stage2 : Bool) (m n lo height k : ℕ) (s u : Work) (a : ℕ) : Type 0 where
-  pub fine : Fine m n u
-  pub long : Long u
+-- what the rows from k on down make of the state, with a columns active
+abbrev pub rest_of : Table → (n lo k : ℕ) → Work → ℕ → Progress
+rest_of which n lo k u a = rows (table_for which) n lo k (progress u a)
+
+-- the rows from k on are done, with a columns active
+pub record Rowed (which : Table) (lo k : ℕ) (s u : Work) (a : ℕ) : Type 0 where
+  pub rows : u.m ≡ s.m
+  pub cols : u.cols ≡ s.cols
+  pub clear : u.over ≡ false
   pub low : lo ≤ a
-  pub high : a ≤ n
-  pub last : k ≤ height
-  pub rest : rows (table_for stage2) n lo k (progress m n u a) ≡ rows (table_for stage2) n lo height (progress m n s n)
-  pub steps : u.steps + k * per_row ≤ s.steps + height * per_row
+  pub high : a ≤ s.cols
+  pub rest : rest_of which s.cols lo k u a ≡ rest_of which s.cols lo (height_for which s) s s.cols
+  pub steps : u.steps + k * per_row ≤ s.steps + height_for which s * per_row
 
-pub rowed_start : {stage2 : Bool} {m n lo height : ℕ} {s : Work} → Fine m n s → Long s → RowsBegun stage2 m n lo height s
-    → Rowed stage2 m n lo height height s s n
-rowed_start f l b = record { fine = f; long = l; low = b.lo_in; high = omega arith; last = omega arith; rest = refl; steps = omega arith }
+module _ {which : Table} {lo k a : ℕ} {s u : Work} (b : RowsBegun which lo s) (g : Rowed which lo k s u a) where
+  along : {v : State} → state_of u ≡ v → Tracks s.m s.cols u v
+  along e = record { rows = g.rows; cols = g.cols; flag = sym (state_over u) ∙ ap (λ (x : State). x.over) e; same = λ _. e }
 
-module _ {stage2 : Bool} {m n lo height k a : ℕ} {s u : Work} (b : RowsBegun stage2 m n lo height s) (g : Rowed stage2 m n lo height k s u a) where
-  pub rowed_end : k ≡ 0 → RowsDone stage2 m n lo height s u a
+  pub rowed_end : k ≡ 0 → RowsDone which lo s u a
   rowed_end e =
-      let d : progress m n u a ≡ rows (table_for stage2) n lo height (progress m n s n) =
-      sym (rows_end (table_for stage2) n lo (progress m n u a)) ∙ (rw e at g.rest) in
+      let d : progress u a ≡ rest_of which s.cols lo (height_for which s) s s.cols =
+      sym (rows_end (table_for which) s.cols lo (progress u a)) ∙ (rw e at g.rest) in
       record {
         upto = g.high;
-        tracks = same_tracks m n u _ g.fine (ap (λ (x : Progress). x.state) d);
+        tracks = along (ap (λ (x : Progress). x.state) d);
         active = λ _. ap (λ (x : Progress). x.a) d;
         counted = λ _. omega (arith, g.steps);
       }
 
   -- row k - 1
-  module _ (h : 0 < k) where
-    pub row-there : k - 1 < height_for stage2 m n
-    row-there = omega (arith, g.last, b.all)
+  module _ (h : 0 < k) (h' : k ≤ height_for which s) where
+    pub row-there : k - 1 < height_for which u
+    row-there = omega (arith, same-height which s u g.rows g.cols)
 
-    one : rows (table_for stage2) n lo (k - 1) (row (table_for stage2) n lo (k - 1) (progress m n u a))
-        ≡ rows (table_for stage2) n lo height (progress m n s n)
-    one = let e : suc (k - 1) ≡ k = omega arith in sym (rows_step (table_for stage2) n lo (progress m n u a) (k - 1)) ∙ rw e g.rest
+    one : rows (table_for which) s.cols lo (k - 1) (row (table_for which) s.cols lo (k - 1) (progress u a)) ≡ rest_of which s.cols lo (height_for which s) s s.cols
+    one = let e : suc (k - 1) ≡ k = omega arith in sym (rows_step (table_for which) s.cols lo (progress u a) (k - 1)) ∙ rw e g.rest
 
     -- the scan is through
-    module _ {j best : ℕ} (c : Best (sizes (entries_for stage2 u.t u.v) ((k - 1) * n)) lo a j best) (through : a ≤ j) where
-      scanned : smallest (sizes_in stage2 m n u (k - 1)) lo a ≡ smallest (sizes (entries_for stage2 u.t u.v) ((k - 1) * n)) lo j
-      scanned =
-          let e : j ≡ a = omega (arith, c.high) in
-          rw e (smallest_cong (sizes_in stage2 m n u (k - 1)) (sizes (entries_for stage2 u.t u.v) ((k - 1) * n)) lo a
-          (λ d i. state_size m n u stage2 (k - 1) d row-there (omega (arith, i.high, g.high))))
+    module _ {xs : List ℤ} (r : RowOf which (k - 1) u xs) where
+      scanned : smallest (sizes_in which u (k - 1)) lo a ≡ smallest (sizes xs) lo a
+      scanned = smallest_cong (sizes_in which u (k - 1)) (sizes xs) lo a (λ d i. size_in r d (omega (arith, i.high, g.high, g.cols)))
 
-      pub rowed_pass : best ≡ a → Rowed stage2 m n lo height (k - 1) s u a
-      rowed_pass e = record {
-        fine = g.fine;
-        long = g.long;
+      pub rowed_pass : Best (sizes xs) lo a a None → Rowed which lo (k - 1) s u a
+      rowed_pass c = record {
+        rows = g.rows;
+        cols = g.cols;
+        clear = g.clear;
         low = g.low;
         high = g.high;
-        last = omega (arith, g.last);
-        rest = ap (rows (table_for stage2) n lo (k - 1))
-            (sym (row-pass (table_for stage2) n lo (k - 1) (progress m n u a)
-            (smallest-nowhere (sizes_in stage2 m n u (k - 1)) lo a (scanned ∙ c.nothing e)))) ∙ one;
+        rest = ap (rows (table_for which) s.cols lo (k - 1))
+            (sym (row-pass (table_for which) s.cols lo (k - 1) (progress u a)
+            (smallest-nowhere (sizes_in which u (k - 1)) lo a (scanned ∙ sym c.is)))) ∙ one;
         steps = omega (arith, g.steps);
       }
 
-      module _ (d : best ≢ a) where
-        pub rowed_begun : RowBegun stage2 m n (k - 1) lo a best u
-        rowed_begun = record { row_in = row-there; a_in = g.high; smallest = scanned ∙ c.something d; room = omega (arith, g.steps, b.room) }
+      module _ {p : ℕ} (c : Best (sizes xs) lo a a (Some p)) where
+        pub rowed_begun : RowBegun which (k - 1) lo a p u
+        rowed_begun = record {
+          clear = g.clear;
+          row_in = row-there;
+          a_in = omega (arith, g.high, g.cols);
+          smallest = scanned ∙ sym c.is;
+          room = omega (arith, g.steps, b.room);
+        }
 
-        best_in : In lo a best
-        best_in = (smallest-there (sizes_in stage2 m n u (k - 1)) lo a best (scanned ∙ c.something d)).within
+        p-in : In lo a p
+        p-in = (smallest-there (sizes_in which u (k - 1)) lo a p (scanned ∙ sym c.is)).within
 
         pub some_left : 1 ≤ a
-        some_left = omega (arith, best_in)
+        some_left = omega (arith, p-in)
 
-        module _ {r : Work} (rd : RowDone stage2 m n (k - 1) lo a u r) where
-          pub rowed_next : Long r → r.over ≡ false → Rowed stage2 m n lo height (k - 1) s r (a - 1)
-          rowed_next l o =
-              let e : progress m n r (a - 1) ≡ row (table_for stage2) n lo (k - 1) (progress m n u a) =
-              λ i. record { state = rd.tracks.same o i; a = sym rd.less i } in
+        module _ {z : Work} (rd : RowDone which (k - 1) lo a u z) where
+          on : (row (table_for which) u.cols lo (k - 1) (progress u a)) ≡ (row (table_for which) s.cols lo (k - 1) (progress u a))
+          on = ap (λ (n : ℕ). row (table_for which) n lo (k - 1) (progress u a)) g.cols
+
+          next : Tracks s.m s.cols z (row (table_for which) s.cols lo (k - 1) (progress u a)).state
+          next = on_tracks (along refl) rd.tracks (ap (λ (x : Progress). x.state) on)
+
+          pub rowed_next : z.over ≡ false → Rowed which lo (k - 1) s z (a - 1)
+          rowed_next o =
+              let e : progress z (a - 1) ≡ row (table_for which) s.cols lo (k - 1) (progress u a) =
+              (λ i. record { state = rd.tracks.same o i; a = sym rd.less i }) ∙ on in
               record {
-                fine = rd.tracks.fine o;
-                long = l;
-                low = omega (arith, best_in);
+                rows = next.rows;
+                cols = next.cols;
+                clear = o;
+                low = omega (arith, p-in);
                 high = omega (arith, g.high);
-                last = omega (arith, g.last);
-                rest = ap (rows (table_for stage2) n lo (k - 1)) e ∙ one;
+                rest = ap (rows (table_for which) s.cols lo (k - 1)) e ∙ one;
                 steps = omega (arith, g.steps, rd.counted o);
               }
 
-          pub rowed_over : r.over ≡ true → RowsDone stage2 m n lo height s r (a - 1)
+          pub rowed_over : z.over ≡ true → RowsDone which lo s z (a - 1)
           rowed_over o = record {
             upto = omega (arith, g.high);
-            tracks = over_tracks m n r _ o (ap (λ (x : Progress). x.state.over) (sym one)
-                ∙ rows_over (table_for stage2) n lo (k - 1) (row (table_for stage2) n lo (k - 1) (progress m n u a)) (sym rd.tracks.flag ∙ o));
-            active = λ z. absurd (true-not-false o z);
-            counted = λ z. absurd (true-not-false o z);
+            tracks = over_tracks next _ o (ap (λ (x : Progress). x.state.over) (sym one)
+                ∙ rows_over (table_for which) s.cols lo (k - 1) (row (table_for which) s.cols lo (k - 1) (progress u a)) (sym next.flag ∙ o));
+            active = λ e. absurd (true-not-false o e);
+            counted = λ e. absurd (true-not-false o e);
           }

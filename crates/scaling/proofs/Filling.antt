@@ -4,8 +4,8 @@ use mathlib.Core.List.{List, [], ◌∷◌, ◌++◌, append_assoc, append-nil}
 use Prim.Native.Nat.{ℕ, zero, suc, ◌+◌, ◌-◌, ◌≤◌, ◌<◌}
 use native.Mathlib.Omega.{arith}
 use native.Mathlib.Numerals.{add-one}
-use native.Mathlib.Nat.{zero-add, add-zero, add-suc}
-use lib.ListN.{length, get_or, take, drop, set, length-append, length-drop, take-append-drop, get_or-append}
+use native.Mathlib.Nat.{zero-add, add-suc}
+use lib.ListN.{length, get_or, take, drop, set, length-append, length-drop, get_or-append}
 use lib.Seq.{drop-cons, append_snoc, set_at, length-take-le, get_or-drop}
 use Rattle.whole.specs.Lists.{tab, join}
 use Rattle.whole.proofs.Lists.{length-tab, nth-tab, nth-rest}
@@ -27,9 +27,6 @@ take-tab (suc n) (x ∷ xs) d h = ap (λ l. x ∷ l) (take-tab n xs d (omega ari
 
 -- ---- from an index on; `written` of specs/Terms
 module _ {ℓ} {A : Type ℓ} (xs : List A) (at : ℕ) (f : ℕ → A) where
-  pub written_none : take at xs ++ tab 0 f ++ drop (at + 0) xs ≡ xs
-  written_none = rw (add-zero at, append-nil) (take-append-drop at xs)
-
   length_head : (k : ℕ) → at + k ≤ length xs → length (take at xs ++ tab k f) ≡ at + k
   length_head k h = length-append (take at xs) (tab k f) ∙ omega (arith, length-take-le at xs (omega arith), length-tab k f)
 
@@ -43,10 +40,6 @@ module _ {ℓ} {A : Type ℓ} (xs : List A) (at : ℕ) (f : ℕ → A) where
       ∙ sym (append_snoc p (f k) rest)
       ∙ ap (λ (r : List A). r ++ rest) (append_assoc (take at xs) (tab k f) (f k ∷ []) ∙ ap (λ (r : List A). take at xs ++ r) (sym (tab-more k f)))
       ∙ ap (λ (n : ℕ). take at xs ++ tab (suc k) f ++ drop n xs) (sym (add-suc at k))
-
-  pub written-turn : (k : ℕ) {a : List A} {x : A} → a ≡ take at xs ++ tab k f ++ drop (at + k) xs → x ≡ f k → at + k < length xs
-      → set a (at + k) x ≡ take at xs ++ tab (k + 1) f ++ drop (at + (k + 1)) xs
-  written-turn k e g h = rw (e, g, add-one k) (written-more k h)
 
   pub length-written : (k : ℕ) → at + k ≤ length xs → length (take at xs ++ tab k f ++ drop (at + k) xs) ≡ length xs
   length-written k h =

@@ -4,7 +4,7 @@
 --     Places            places in a flat list: which are apart, which are in it, where a turned entry stood
 --     StridedContents   what the lists of specs/Strided hold after their turns
 --     StridedLines      the lines of a flat list before and after a loop, and what an addition's flag says
---     State             the code's state read as the definition's: its lines, its entries, the bounds of its places
+--     State             the code's state read as the definition's: its lines, its entries and their sizes, the bounds of its places
 --     Steps             the three steps and the reordering of the code are the definition's
 pub mod Values
 pub mod Places
@@ -13,8 +13,9 @@ pub mod StridedLines
 pub mod State
 pub mod Steps
 -- ---- the stages
---     TableRow          a row of the table that a stage looks at, in the flat list: where it lies, its entries, their size
---     Tracking          how an addition counts, and the two ways in which a state tracks one
+--     Finding           the searches of std as the code calls them, as the definition's; a row as a slice of the flat list
+--     TableRow          a row of the table that a stage looks at: its entries, their size
+--     Tracking          how an addition counts, and the ways in which a state tracks one
 --     Searched          (A)'s two searches by the code, and what (A) does next
 --     Repeating         repetitions of (A): what each asks, where they end, how they go on; the first one
 --     Reducing          the parts of (B): the pivot's column to its place, its sign, one column into range
@@ -23,6 +24,7 @@ pub mod Steps
 --     RowScan           the scan of a row for its smallest entry
 --     AllRows           all rows of a stage
 --     ThirdStage        stage 3
+pub mod Finding
 pub mod TableRow
 pub mod Tracking
 pub mod Searched
@@ -41,7 +43,7 @@ pub mod Filling
 --     MatrixC           the entries of C as the code finds them, and bounds of a well-formed problem
 --     Starting          the start is the definition's
 --     Running           the run is the definition's
---     Building          from the run to H, V and W as they are lent out, or refusal 7
+--     Building          from the run to H, V and W as they are lent out
 --     BuildCall         the call, from its checks on
 --     Called            the call, as a later call makes it
 pub mod Diagonal

@@ -7,7 +7,6 @@ use Prim.Native.Nat.{ℕ, ◌+◌, ◌-◌, ◌*◌, ◌/◌, ◌%◌, ◌≤◌
 use native.Mathlib.Omega.{arith}
 use native.Mathlib.Nat.{mul-le-mul, mod-lt, div-lt_iff_lt-mul}
 use native.Mathlib.Decide.{ℕ_discrete}
-use lib.Arith.{digits_lt}
 use lib.ListN.{length, drop}
 use lib.IntN.{ℤ, pos, neg_ℤ, nat_abs}
 use Rattle.whole.specs.Lists.{nth, tab}
@@ -51,9 +50,6 @@ module _ {P : Problem} (h : WellFormed P) where
 
     -- x is the count of modulus columns, as the code has it
     module _ {x : ℕ} (e : x ≡ s P) (b : x ≤ c) where
-      pub quantity_in : i * P.n + (c - x) < length P.matrix
-      quantity_in = omega (arith, h.matrix, digits_lt {q = i} {m = P.m} {r = c - x} {c = P.n} l.row (omega (arith, l.column)))
-
       pub C-quantity : nth P.matrix (i * P.n + (c - x)) ≡ C P i c
       C-quantity =
           let z : s P + (c - x) ≡ c = omega arith in
@@ -74,9 +70,6 @@ module _ {P : Problem} (h : WellFormed P) where
 
     pub area-above : P.m * x ≤ 192
     area-above = rw e area
-
-    pub square_above : x * x ≤ 576
-    square_above = rw e square
 
     pub place_in : (k : ℕ) → k < P.m * x → InC P (k / x) (k % x)
     place_in k l = record {

@@ -2,8 +2,8 @@
 use mathlib.Core.Path.{◌≡◌, ap, sym, ◌∙◌}
 use mathlib.Core.Logic.{◌≢◌}
 use mathlib.Core.Bool.{Bool}
-use Prim.Native.Nat.{ℕ, zero, suc, ◌+◌, ◌*◌, ◌/◌, ◌%◌, ◌<◌, ◌≤◌}
-use native.Mathlib.Nat.{mul-lt-mul_of_pos_right, le_refl, suc-mul, mod-lt, mod-eq_of_lt, div-eq_of_lt, div-add-mod', div-lt_iff_lt-mul}
+use Prim.Native.Nat.{ℕ, ◌+◌, ◌*◌, ◌/◌, ◌%◌, ◌<◌, ◌≤◌}
+use native.Mathlib.Nat.{mul-lt-mul_of_pos_right, le_refl, mod-lt, mod-eq_of_lt, div-eq_of_lt, div-add-mod'}
 use native.Mathlib.Nat.{add-mul-mod_self_right, add-mul-div_right}
 use native.Mathlib.Omega.{arith}
 use Rattle.whole.proofs.Tests.{Test, pass, fail, lt?}
@@ -12,11 +12,6 @@ use Rattle.scaling.specs.Strided.{rotate_from}
 
 pub cell : {j n k m : ℕ} → j < n → k < m → j + k * n < m * n
 cell {j} {n} {k} {m} hj hk = omega (arith, row_within k n m n hk (le_refl n))
-
--- a table with an entry has a row
-pub some-row : (rows width k : ℕ) → k < rows * width → width ≤ rows * width
-some-row zero width k h = absurd (omega arith)
-some-row (suc rows) width k h = omega (arith, suc-mul rows width)
 
 column_of : (j k n : ℕ) → j < n → (j + k * n) % n ≡ j
 column_of j k n h = add-mul-mod_self_right j k n ∙ mod-eq_of_lt h
@@ -61,11 +56,6 @@ rows n = record {
 }
 
 -- ---- turned rows
-pub rotate_in : (width by rows k : ℕ) → 0 < width → k < rows * width → rotate_from width by k < rows * width
-rotate_in width by rows k h l =
-    let r : k / width < rows = (div-lt_iff_lt-mul {k = width} {x = k} {y = rows} h).1 l in
-    omega (arith, cell {j = (k % width + by) % width} {n = width} {k = k / width} {m = rows} (mod-lt (k % width + by) h) r)
-
 -- in a table whose rows are turned, column c is what column (c + a) % n was
 pub rotate_column : (n a c k : ℕ) → c < n → rotate_from n a (c + k * n) ≡ (c + a) % n + k * n
 rotate_column n a c k h = rw (row_of c k n h, column_of c k n h) (omega arith)

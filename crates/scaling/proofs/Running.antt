@@ -1,32 +1,28 @@
 -- The code's run is the definition's, stage by stage; it stops at the first state that is over, which the definition's end then is too.
--- x is the number of columns, as the code has it; a is what stage 1 leaves active, so that the rank is x - a.
+-- a is what stage 1 leaves active, so that the rank is what is left of all columns.
 use mathlib.Core.Path.{◌≡◌, refl, sym, ◌∙◌, ap}
-use mathlib.Core.Bool.{true, false, false≢true}
+use mathlib.Core.Bool.{true, false}
 use Prim.Native.Nat.{ℕ, ◌-◌}
 use native.Mathlib.Omega.{arith}
 use native.Mathlib.Nat.{mul-le-mul}
-use Rattle.rules.specs.Problem.{Problem, s, N, columns as columns_of}
-use Rattle.rules.specs.Steps.{State, reorder, start}
-use Rattle.rules.specs.Stages.{Progress, stage1, stage2, stage3, run_on, run}
+use Rattle.std.proofs.Common.{Ok, Err}
+use Rattle.checks.specs.declared.Refusal.{Refusal}
+use Rattle.checks.specs.declared.Refusal.TheVariants.{Overflow}
+use Rattle.rules.specs.Problem.{Problem, N, WellFormed, columns as columns_of}
+use Rattle.rules.specs.Steps.{State, reorder, start, on_t, on_v}
+use Rattle.rules.specs.Stages.{Progress, stage1, stage2, stage3, rows, run_on, run}
 use Rattle.theory.proofs.Flag.{stage2_over, stage3_over}
 use Rattle.scaling.specs.declared.work.Work.{Work}
-use Rattle.scaling.specs.WorkState.{state_of, Fine, Tracks, Same}
+use Rattle.scaling.specs.declared.work.Table.TheVariants.{T, V}
+use Rattle.scaling.specs.WorkState.{state_of, Tracks, Same, Reorders}
 use Rattle.scaling.specs.Rows.{RowsBegun, RowsDone, Stage3Begun}
 use Rattle.scaling.specs.Problem.{Starts, Ran}
+use Rattle.scaling.proofs.Tracking.{on_tracks, tracks-same, tracked-same}
+use Rattle.scaling.proofs.MatrixC.{columns-some}
 
--- two states that are both over
-both_over : {m n : ℕ} {w : Work} {u : State} → w.over ≡ true → u.over ≡ true → Tracks m n w u
-both_over o p = record { flag = o ∙ sym p; fine = λ f. absurd (false≢true (sym f ∙ o)); same = λ f. absurd (false≢true (sym f ∙ o)) }
-
--- what the code knows once it has started
-pub record Started (P : Problem) (x count : ℕ) (w₀ : Work) : Type 0 where
-  pub columns : x ≡ N P
-  pub counted : count ≡ s P
-  pub begun : Starts P w₀
-
-module _ {P : Problem} {x count : ℕ} {w₀ : Work} (k : Started P x count w₀) where
-  e : x ≡ N P
-  e = k.columns
+module _ {P : Problem} (g : WellFormed P) {w₀ : Work} (begun : Starts P w₀) where
+  abbrev x : ℕ
+  x = N P
 
   abbrev m : ℕ
   m = P.m
@@ -43,88 +39,98 @@ module _ {P : Problem} {x count : ℕ} {w₀ : Work} (k : Started P x count w₀
   abbrev end : State
   end = stage3 x r x second
 
-  ran : (w : Work) (rank : ℕ) → Tracks m x w end → (w.over ≡ false → rank ≡ r) → Ran P (record { work = w; rank = rank; s = count })
+  ended : end ≡ (run P).state
   unfolding run run_on
-  ran w rank t h = record { count = k.counted; tracks = rw e at t; rank = rw e at h }
+  ended = refl
+
+  refuses : {d : Refusal} → d ≡ Overflow → end.over ≡ true → Ran P (Err d)
+  refuses f o = (f, rw ended at o)
 
   -- ---- stage 1
-  start_is : Same m x w₀ (start (columns_of P))
-  start_is = rw e k.begun
-
-  pub start_fine : Fine m x w₀
-  start_fine = start_is.fine
-
   start_steps : w₀.steps ≡ 0
   unfolding state_of
-  start_steps = ap (λ (u : State). u.steps) start_is.same
+  start_steps = ap (λ (u : State). u.steps) begun.same
 
-  pub first_begun : RowsBegun false m x 0 m w₀
-  first_begun = record { all = refl; lo_in = omega arith; room = omega (arith, start_steps, start_fine.rows) }
+  pub first_begun : RowsBegun T 0 w₀
+  first_begun = record { clear = begun.clear; lo_in = omega arith; room = omega (arith, start_steps, w₀.sound.rows) }
 
-  module _ {w₁ : Work} {a : ℕ} (d : RowsDone false m x 0 m w₀ w₁ a) where
-    first_tracks : Tracks m x w₁ first.state
+  module _ {w₁ : Work} {a : ℕ} (d : RowsDone T 0 w₀ w₁ a) where
+    first_is : rows on_t w₀.cols 0 w₀.m (record { state = state_of w₀; a = w₀.cols }) ≡ first
     unfolding stage1
-    first_tracks = rw start_is.same at d.tracks
+    first_is = λ i. rows on_t (begun.cols i) 0 (begun.rows i) (record { state = begun.same i; a = begun.cols i })
+
+    first_tracks : Tracks m x w₁ first.state
+    first_tracks = on_tracks (tracks-same begun) d.tracks (ap (λ (g : Progress). g.state) first_is)
 
     first_over : w₁.over ≡ true → end.over ≡ true
     unfolding reorder
     first_over o = stage3_over x r x second (stage2_over x r (reorder first.a first.state) (sym first_tracks.flag ∙ o))
 
-    pub ran_first : w₁.over ≡ true → Ran P (record { work = w₁; rank = x - a; s = count })
-    ran_first o = ran w₁ (x - a) (both_over o (first_over o)) (λ f. absurd (false≢true (sym f ∙ o)))
+    pub refused-first : {f : Refusal} → f ≡ Overflow → w₁.over ≡ true → Ran P (Err f)
+    refused-first f o = refuses f (first_over o)
 
     module _ (o : w₁.over ≡ false) where
-      pub first_fine : Fine m x w₁
-      first_fine = first_tracks.fine o
-
       first_active : a ≡ first.a
-      unfolding stage1
-      first_active = rw start_is.same at (d.active o)
+      first_active = d.active o ∙ ap (λ (g : Progress). g.a) first_is
+
+      rank_is : w₁.cols - a ≡ r
+      rank_is = λ i. first_tracks.cols i - first_active i
 
       -- ---- the reordering and stage 2
-      module _ {w₂ : Work} (t : Same m x w₂ (reorder a (state_of m x w₁))) where
-        reorder_is : state_of m x w₂ ≡ reorder first.a first.state
-        reorder_is = rw (first_active, first_tracks.same o) at t.same
+      pub reorders : Reorders a w₁
+      reorders = record { clear = o; some = omega (arith, columns-some g, first_tracks.cols); a_in = omega (arith, d.upto, begun.cols, first_tracks.cols) }
+
+      module _ {w₂ : Work} (t : Same w₁.m w₁.cols w₂ (reorder a (state_of w₁))) where
+        reorder_tracks : Tracks m x w₂ (reorder first.a first.state)
+        reorder_tracks = on_tracks first_tracks (tracks-same t) (λ i. reorder (first_active i) (first_tracks.same o i))
 
         reorder_steps : w₂.steps ≡ w₁.steps
         unfolding state_of reorder
         reorder_steps = ap (λ (u : State). u.steps) t.same
 
-        pub second-begun : RowsBegun true m x (x - a) x w₂
+        pub second-begun : RowsBegun V (w₁.cols - a) w₂
         second-begun = record {
-          all = refl;
-          lo_in = omega arith;
-          room = omega (arith, reorder_steps, d.counted o, start_steps, start_fine.rows, start_fine.cols);
+          clear = t.clear;
+          lo_in = omega (arith, t.cols);
+          room = omega (arith, reorder_steps, d.counted o, start_steps, w₀.sound.rows, w₂.sound.cols);
         }
 
-        module _ {w₃ : Work} {b : ℕ} (d₂ : RowsDone true m x (x - a) x w₂ w₃ b) where
-          second-tracks : Tracks m x w₃ second
+        module _ {w₃ : Work} {b : ℕ} (d₂ : RowsDone V (w₁.cols - a) w₂ w₃ b) where
+          second-is : (rows on_v w₂.cols (w₁.cols - a) w₂.cols (record { state = state_of w₂; a = w₂.cols })).state ≡ second
           unfolding stage2
-          second-tracks = rw (reorder_is, first_active) at d₂.tracks
+          second-is = λ i. (rows on_v (reorder_tracks.cols i) (rank_is i) (reorder_tracks.cols i) (record { state = reorder_tracks.same t.clear i; a = reorder_tracks.cols i })).state
 
-          pub ran-second : w₃.over ≡ true → Ran P (record { work = w₃; rank = x - a; s = count })
-          ran-second p =
-              ran w₃ (x - a) (both_over p (stage3_over x r x second (sym second-tracks.flag ∙ p))) (λ f. absurd (false≢true (sym f ∙ p)))
+          second-tracks : Tracks m x w₃ second
+          second-tracks = on_tracks reorder_tracks d₂.tracks second-is
+
+          pub refused-second : {f : Refusal} → f ≡ Overflow → w₃.over ≡ true → Ran P (Err f)
+          refused-second f p = refuses f (stage3_over x r x second (sym second-tracks.flag ∙ p))
 
           module _ (p : w₃.over ≡ false) where
-            pub second-fine : Fine m x w₃
-            second-fine = second-tracks.fine p
-
             -- ---- stage 3
-            pub third_begun : Stage3Begun x (x - a) w₃
+            pub third_begun : Stage3Begun (w₁.cols - a) w₃
             third_begun = record {
-              r_in = omega arith;
+              clear = p;
+              r_in = omega (arith, first_tracks.cols, second-tracks.cols);
               room = omega (
                 arith,
                 d₂.counted p,
                 reorder_steps,
                 d.counted o,
                 start_steps,
-                start_fine.rows,
-                start_fine.cols,
-                mul-le-mul start_fine.cols start_fine.cols,
+                w₀.sound.rows,
+                w₂.sound.cols,
+                mul-le-mul w₃.sound.cols w₃.sound.cols,
               );
             }
 
-            pub ran_third : {w₄ : Work} → Tracks m x w₄ (stage3 x (x - a) x (state_of m x w₃)) → Ran P (record { work = w₄; rank = x - a; s = count })
-            ran_third {w₄} t₃ = ran w₄ (x - a) (rw (second-tracks.same p, first_active) at t₃) (λ f. ap (λ (k : ℕ). x - k) first_active)
+            module _ {w₄ : Work} (t₃ : Tracks w₃.m w₃.cols w₄ (stage3 w₃.cols (w₁.cols - a) w₃.cols (state_of w₃))) where
+              third_tracks : Tracks m x w₄ end
+              third_tracks = on_tracks second-tracks t₃ (λ i. stage3 (second-tracks.cols i) (rank_is i) (second-tracks.cols i) (second-tracks.same p i))
+
+              pub refused-third : {f : Refusal} → f ≡ Overflow → w₄.over ≡ true → Ran P (Err f)
+              refused-third f q = refuses f (sym third_tracks.flag ∙ q)
+
+              pub ran : w₄.over ≡ false → Ran P (Ok (record { work = w₄; rank = w₁.cols - a }))
+              unfolding run run_on
+              ran q = (tracked-same third_tracks q, rank_is)

@@ -13,14 +13,15 @@ use Rattle.whole.specs.Lists.{nth}
 use Rattle.whole.specs.Matrix.{δ}
 use Rattle.whole.proofs.Tests.{Test, pass, fail, lt?}
 use Rattle.whole.proofs.Sum.{δ-same, δ-diff, δ-sym}
-use Rattle.rules.specs.Limits.{M}
+use Rattle.rules.specs.Limits.{M, room_h, room_v}
 use Rattle.rules.specs.Problem.{Problem, N, C, columns, WellFormed}
 use Rattle.rules.specs.Steps.{line, unit, start}
 use Rattle.theory.proofs.Start.{start_count, start_line, nth-unit, length-unit}
 use Rattle.theory.proofs.Shape.{length-columns, column-length}
 use Rattle.theory.proofs.Sizes.{N-le_24}
 use Rattle.scaling.specs.declared.work.Work.{Work}
-use Rattle.scaling.specs.WorkState.{pick, line_of, Small}
+use Rattle.scaling.specs.Sound.{Small, Sound}
+use Rattle.scaling.specs.WorkState.{pick, line_of}
 use Rattle.scaling.specs.Problem.{HoldsC, HoldsIdentity, Starts}
 use Rattle.scaling.proofs.MatrixC.{columns-some, C-small, place_in}
 use Rattle.scaling.proofs.State.{state_is}
@@ -91,9 +92,6 @@ module _ {P : Problem} {t t₀ : List ℤ} (g : WellFormed P) (h : HoldsC P t t�
     identity : HoldsIdentity (N P) v v₀
     identity = rw e at held
 
-    abbrev begun : Work
-    begun = record { t = t; v = v; w = v; steps = 0; over = false }
-
     line_is : (c : ℕ) → c < N P → line_of P.m (N P) t v v c ≡ line (start (columns P)) c
     unfolding line_of
     line_is c l = rw (
@@ -104,15 +102,24 @@ module _ {P : Problem} {t t₀ : List ℤ} (g : WellFormed P) (h : HoldsC P t t�
       identity-row identity y c l,
     )
 
-    pub start_same : Starts P begun
-    start_same = record {
-      fine = record {
-        rows = g.m-high;
-        cols = N-le_24 P g;
-        clear = refl;
-        t = C-holds-small;
-        v = identity-small identity y (columns-some g);
-        w = identity-small identity y (columns-some g);
-      };
-      same = state_is P.m (N P) begun (start (columns P)) (start_count (columns P) ∙ length-columns P) line_is refl refl;
+    pub start-sound : length t ≡ room_h → length v ≡ room_v → Sound P.m x t v v false
+    start-sound f l = record {
+      rows = g.m-high;
+      cols = rw e (N-le_24 P g);
+      t_long = f;
+      v_long = l;
+      w_long = l;
+      t_small = λ _. C-holds-small;
+      v_small = λ _. identity-small identity y (columns-some g);
+      w_small = λ _. identity-small identity y (columns-some g);
+    }
+
+    -- the state that is made of them
+    pub start_same : {r : Work} → r.m ≡ P.m → r.cols ≡ x → r.t ≡ t → r.v ≡ v → r.w ≡ v → r.steps ≡ 0 → r.over ≡ false → Starts P r
+    start_same {r} rows cols is-t is-v is-w steps over = record {
+      rows = rows;
+      cols = cols ∙ e;
+      clear = over;
+      same = state_is r (start (columns P)) (start_count (columns P) ∙ length-columns P ∙ sym (cols ∙ e))
+          (λ c l. (λ k. line_of (rows k) ((cols ∙ e) k) (is-t k) (is-v k) (is-w k) c) ∙ line_is c (omega (arith, e))) steps over;
     }

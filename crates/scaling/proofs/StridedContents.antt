@@ -13,7 +13,7 @@ use Rattle.whole.specs.Lists.{nth}
 use Rattle.whole.proofs.Tests.{Test, pass, fail, lt?}
 use Rattle.rules.specs.Limits.{M}
 use Rattle.scaling.specs.Strided.{Within, keep, sum_at, add_f, swap_f, neg_f, rotate_from, rotate_f}
-use Rattle.scaling.specs.WorkState.{Small}
+use Rattle.scaling.specs.Sound.{Small}
 use Rattle.scaling.proofs.Values.{keep-small}
 use Rattle.scaling.proofs.Places.{Disjoint, once}
 
@@ -110,6 +110,12 @@ module _ (xs old : List ℤ) (width by : ℕ) where
 
   pub rotate_f-small : Small xs → Small old → (k : ℕ) → Small (rotate_f xs old width by k)
   rotate_f-small h g = writes_small rotate_f_writes h (λ k. g.at (rotate_from width by k))
+
+  pub rotate_f-length : (k : ℕ) → length (rotate_f xs old width by k) ≡ length xs
+  rotate_f-length = writes_length rotate_f_writes
+
+  pub rotate_f-kept : (p c : ℕ) → ((k : ℕ) → k < c → p ≢ k) → nth (rotate_f xs old width by c) p ≡ nth xs p
+  rotate_f-kept = writes_kept rotate_f_writes
 
   pub rotate_f-made : (count k : ℕ) → count ≤ length xs → k < count → nth (rotate_f xs old width by count) k ≡ nth old (rotate_from width by k)
   rotate_f-made count k l h = writes_made rotate_f_writes count k h (omega arith) (λ l a. omega arith)

@@ -16,7 +16,8 @@ use Rattle.rules.specs.Limits.{beyond}
 use Rattle.rules.specs.Steps.{plus, any_beyond}
 use Rattle.theory.proofs.Range.{beyond-none}
 use Rattle.scaling.specs.Strided.{Within, keep, sum_at, add_f, add_o, swap_f, neg_f, rotate_f}
-use Rattle.scaling.specs.WorkState.{Small, pick}
+use Rattle.scaling.specs.Sound.{Small}
+use Rattle.scaling.specs.WorkState.{pick}
 use Rattle.checks.proofs.Values.{not_beyond}
 use Rattle.scaling.proofs.Values.{kept}
 use Rattle.scaling.proofs.Places.{Layout, cell, rotate_column, rotate_row}

@@ -1,13 +1,15 @@
 -- A problem's matrix C as the code writes it, and what its run begins and ends with.
-use Rattle.std.specs.Prelude.{◌≡◌, false, List, ℕ, ◌+◌, ◌*◌, ◌/◌, ◌%◌, ◌<◌, ◌≤◌, length, ℤ, pos}
+use Rattle.std.specs.Prelude.{◌≡◌, true, List, ℕ, ◌+◌, ◌*◌, ◌/◌, ◌%◌, ◌<◌, ◌≤◌, length, ℤ, pos, Result, Ok, Err}
 use Rattle.whole.specs.Lists.{nth}
 use Rattle.whole.specs.Matrix.{δ}
-use Rattle.rules.specs.Problem.{Problem, s, N, C, columns}
+use Rattle.rules.specs.Problem.{Problem, N, C, columns}
 use Rattle.rules.specs.Steps.{start}
 use Rattle.rules.specs.Stages.{run}
+use Rattle.checks.specs.declared.Refusal.{Refusal}
+use Rattle.checks.specs.declared.Refusal.TheVariants.{Overflow}
 use Rattle.scaling.specs.declared.run.Outcome.{Outcome}
 use Rattle.scaling.specs.declared.work.Work.{Work}
-use Rattle.scaling.specs.WorkState.{Same, Tracks}
+use Rattle.scaling.specs.WorkState.{Same}
 
 -- an entry of C
 pub record InC (P : Problem) (i c : ℕ) : Type 0 where
@@ -30,8 +32,7 @@ pub record HoldsIdentity (n : ℕ) (a a₀ : List ℤ) : Type 0 where
 abbrev pub Starts : Problem → Work → Type 0
 Starts P r = Same P.m (N P) r (start (columns P))
 
--- what the whole run ends with
-pub record Ran (P : Problem) (r : Outcome) : Type 0 where
-  pub count : r.s ≡ s P
-  pub tracks : Tracks P.m (N P) r.work (run P).state
-  pub rank : r.work.over ≡ false → r.rank ≡ (run P).rank
+-- what the whole run ends with: what the definition's does, or refusal 7 where that is over
+abbrev pub Ran : Problem → Result Outcome Refusal → Type 0
+Ran P (Ok r) = Same P.m (N P) r.work (run P).state × (r.rank ≡ (run P).rank)
+Ran P (Err e) = (e ≡ Overflow) × ((run P).state.over ≡ true)

@@ -1,9 +1,10 @@
 -- The code's work state as the definition's: line i is column i of T, column i of V, row i of W.
--- n is N of R5.1, the number of columns.
-use Rattle.std.specs.Prelude.{◌≡◌, ◌≢◌, Bool, true, false, cond, List, [], ◌∷◌, ℕ, zero, suc, ◌+◌, ◌*◌, ◌<◌, ◌≤◌, ℤ, nat_abs}
+use Rattle.std.specs.Prelude.{◌≡◌, ◌≢◌, false, List, [], ◌∷◌, ℕ, zero, suc, ◌+◌, ◌*◌, ◌<◌, ◌≤◌, length, ℤ}
 use Rattle.whole.specs.Lists.{nth}
-use Rattle.rules.specs.Limits.{M}
-use Rattle.rules.specs.Steps.{Line, State, Table, on_t, on_v}
+use Rattle.rules.specs.Steps as steps
+use Rattle.rules.specs.Steps.{Line, State, on_t, on_v, get}
+use Rattle.scaling.specs.declared.work.Table.{Table}
+use Rattle.scaling.specs.declared.work.Table.TheVariants.{T, V}
 use Rattle.scaling.specs.declared.work.Work.{Work}
 
 -- count entries, from an index on, with a stride
@@ -19,57 +20,62 @@ unfoldable pub lines_from : (m n : ℕ) → (t v w : List ℤ) → (i count : �
 lines_from m n t v w i zero = []
 lines_from m n t v w i (suc k) = line_of m n t v w i ∷ lines_from m n t v w (suc i) k
 
-unfoldable pub state_of : (m n : ℕ) → Work → State
-state_of m n s = record { lines = lines_from m n s.t s.v s.w 0 n; steps = s.steps; over = s.over }
+unfoldable pub state_of : Work → State
+state_of s = record { lines = lines_from s.m s.cols s.t s.v s.w 0 s.cols; steps = s.steps; over = s.over }
 
--- every entry is within M
-pub record Small (xs : List ℤ) : Type 0 where
-  pub at : (i : ℕ) → nat_abs (nth xs i) ≤ M
-
--- the sizes, and no value beyond M
-pub record Fine (m n : ℕ) (s : Work) : Type 0 where
-  pub rows : m ≤ 8
-  pub cols : n ≤ 24
-  pub clear : s.over ≡ false
-  pub t : Small s.t
-  pub v : Small s.v
-  pub w : Small s.w
-
--- s is what the definition's state u is, or both are over
+-- s has m rows and n columns, and is what the definition's state u is, or both are over
 pub record Tracks (m n : ℕ) (s : Work) (u : State) : Type 0 where
+  pub rows : s.m ≡ m
+  pub cols : s.cols ≡ n
   pub flag : s.over ≡ u.over
-  pub fine : s.over ≡ false → Fine m n s
-  pub same : s.over ≡ false → state_of m n s ≡ u
+  pub same : s.over ≡ false → state_of s ≡ u
 
--- s is what u is, where nothing can be over
+-- s has m rows and n columns, and is what u is, where nothing can be over
 pub record Same (m n : ℕ) (s : Work) (u : State) : Type 0 where
-  pub fine : Fine m n s
-  pub same : state_of m n s ≡ u
+  pub rows : s.m ≡ m
+  pub cols : s.cols ≡ n
+  pub clear : s.over ≡ false
+  pub same : state_of s ≡ u
 
 -- a count that is never reached: no column step is left out of it
 abbrev pub most : ℕ
 most = 18_446_744_073_709_551_615
 
--- a column, with a step left to count
-pub record One (n i : ℕ) (s : Work) : Type 0 where
-  pub i_in : i < n
+-- no value is beyond M; a column, with a step left to count
+pub record One (i : ℕ) (s : Work) : Type 0 where
+  pub clear : s.over ≡ false
+  pub i_in : i < s.cols
   pub room : s.steps < most
 
 -- two columns
-pub record Two (n i j : ℕ) (s : Work) : Type 0 where
-  pub i_in : i < n
-  pub j_in : j < n
+pub record Two (i j : ℕ) (s : Work) : Type 0 where
+  pub clear : s.over ≡ false
+  pub i_in : i < s.cols
+  pub j_in : j < s.cols
   pub apart : i ≢ j
   pub room : s.steps < most
 
--- ---- the table that a stage looks at: V in stage 2, else T
-abbrev pub table_for : (stage2 : Bool) → Table
-table_for true = on_v
-table_for false = on_t
+-- the columns from a on come to the front
+pub record Reorders (a : ℕ) (s : Work) : Type 0 where
+  pub clear : s.over ≡ false
+  pub some : 0 < s.cols
+  pub a_in : a ≤ s.cols
 
-abbrev pub entries_for : (stage2 : Bool) → (t v : List ℤ) → List ℤ
-entries_for stage2 t v = cond stage2 v t
+-- ---- the table that a stage looks at
+abbrev pub table_for : Table → steps.Table
+table_for T = on_t
+table_for V = on_v
+
+abbrev pub entries_for : Table → Work → List ℤ
+entries_for T s = s.t
+entries_for V s = s.v
 
 -- its rows
-abbrev pub height_for : (stage2 : Bool) → (m n : ℕ) → ℕ
-height_for stage2 m n = cond stage2 n m
+abbrev pub height_for : Table → Work → ℕ
+height_for T s = s.m
+height_for V s = s.cols
+
+-- xs is row k of it
+pub record RowOf (which : Table) (k : ℕ) (s : Work) (xs : List ℤ) : Type 0 where
+  pub whole : length xs ≡ s.cols
+  pub entry : (c : ℕ) → c < s.cols → get (table_for which) (state_of s) k c ≡ nth xs c

@@ -1,22 +1,31 @@
 // Glaukemis: the Hermite form, the normal multiplier and its inverse.
 #![tactic(auto)]
 
-ghost use Rattle.std.specs.Prelude.{◌≡◌, ◌≤◌, length, take};
-ghost use Rattle.rules.specs.Problem.{WellFormed};
-ghost use Rattle.rules.specs.Calls.{filled, build_of};
-ghost use Rattle.checks.specs.Checks.{given};
-ghost use Rattle.checks.specs.Moduli.{lent_problem};
+ghost use Rattle.std.specs.Prelude.{◌≡◌};
+ghost use Rattle.rules.specs.Calls.{build_of};
+ghost use Rattle.checks.specs.Checks.{given, problem_of};
+ghost use Rattle.scaling.specs.Answers.{answer_of};
 ghost use Rattle.scaling.specs.BuildPromise.{Builds, RoomToBuild};
 ghost use Rattle.scaling.specs.BuildPromise as promise;
 
-use checks::{ROOM_H, ROOM_V, ROOM_W, both};
-
 mod numbers;
 mod run;
+mod scan;
 mod strided;
 mod work;
 
-// What a build answers: the number 0 with the rank, how many rows have a modulus and how many steps it took; or a refusal's number and place.
+use checks::{Checked, ROOM_H, ROOM_V, ROOM_W, Refusal};
+use run::Outcome;
+
+// What a build came to: the rank, how many rows have a modulus and how many steps it took.
+#[derive(Clone, Copy, Debug, PartialEq, Eq)]
+pub struct Built {
+    pub rank: u32,
+    pub moduli: u32,
+    pub steps: u64,
+}
+
+// A build's answer as C reads it: the number 0 with what it came to; or a refusal's number and place.
 #[repr(C)]
 #[derive(Clone, Copy)]
 pub struct BuildAnswer {
@@ -27,57 +36,54 @@ pub struct BuildAnswer {
     pub steps: u64,
 }
 
-// The first count entries of `source`, at the front of `out`.
-fn copy(out: &mut [i32], source: &[i32], count: usize)
-    requires { (count ≤ length out.old) × (count ≤ length source.now) }
-    ensures { out.new ≡ filled (take count source.now) out.old }
-{
-    let mut i = 0;
-    while i < count {
-        out[i] = source[i];
-        i += 1;
+impl From<Result<Built, Refusal>> for BuildAnswer {
+    ghost from_gives = { λ built answer. answer ≡ answer_of built };
+
+    fn from(built: Result<Built, Refusal>) -> BuildAnswer {
+        match built {
+            Ok(b) => BuildAnswer {
+                number: 0,
+                place: 0,
+                rank: b.rank,
+                moduli: b.moduli,
+                steps: b.steps,
+            },
+            Err(e) => BuildAnswer {
+                number: e.number(),
+                place: e.place(),
+                rank: 0,
+                moduli: 0,
+                steps: 0,
+            },
+        }
     }
 }
 
 // A build of a problem that has passed checks 1 to 5.
 fn build_checked(
-    n: usize,
-    matrix: &[i32],
-    moduli: &[i32],
+    p: &Checked<'_>,
     h: &mut [i32],
     v: &mut [i32],
     w: &mut [i32],
-) -> BuildAnswer
-    requires well_formed { WellFormed (lent_problem n matrix.now moduli.now) }
-    requires room_to_build { RoomToBuild h.old v.old w.old }
-    ensures { Builds (promise.build_checked (lent_problem n matrix.now moduli.now) h.old v.old w.old) result h.new v.new w.new }
+) -> Result<Built, Refusal>
+    requires { RoomToBuild h.old v.old w.old }
+    ensures { Builds (promise.build_checked (problem_of p.now) h.old v.old w.old) (answer_of result) h.new v.new w.new }
 {
-    let u = run::run(n, matrix, moduli);
-    let work = u.work;
-    let over = work.over;
-    if over {
-        return BuildAnswer {
-            number: 7,
-            place: 0,
-            rank: 0,
-            moduli: 0,
-            steps: 0,
-        };
-    }
-    let cols = n + u.s;
-    copy(h, &work.t, moduli.len() * cols);
-    copy(v, &work.v, cols * cols);
-    copy(w, &work.w, cols * cols);
-    BuildAnswer {
-        number: 0,
-        place: 0,
-        rank: u.rank as u32,
-        moduli: u.s as u32,
+    let Outcome { work, rank } = run::run(p)?;
+    let area = work.m * work.cols;
+    let square = work.cols * work.cols;
+    h[..area].copy_from_slice(&work.t[..area]);
+    v[..square].copy_from_slice(&work.v[..square]);
+    w[..square].copy_from_slice(&work.w[..square]);
+    Ok(Built {
+        rank: rank as u32,
+        moduli: p.rows.len() as u32,
         steps: work.steps,
-    }
+    })
 }
 
 // The Hermite form H of the problem's matrix C, the normal multiplier V and its inverse W, row after row.
+// The problem comes in its parts, and each output as a lent slice, since C calls it so.
 pub fn build(
     m: u32,
     n: u32,
@@ -86,23 +92,10 @@ pub fn build(
     h: &mut [i32],
     v: &mut [i32],
     w: &mut [i32],
-) -> BuildAnswer
-    ensures { Builds (build_of (given m n matrix.now moduli.now) h.old v.old w.old) result h.new v.new w.new }
+) -> Result<Built, Refusal>
+    ensures { Builds (build_of (given m n matrix.now moduli.now) h.old v.old w.old) (answer_of result) h.new v.new w.new }
 {
-    let outputs = both(
-        ROOM_H <= h.len(),
-        both(ROOM_V <= v.len(), ROOM_W <= w.len()),
-    );
-    let c = checks::problem(m, n, matrix, moduli, true, outputs);
-    let number = c.number;
-    if number != 0 {
-        return BuildAnswer {
-            number: number,
-            place: c.place,
-            rank: 0,
-            moduli: 0,
-            steps: 0,
-        };
-    }
-    build_checked(n as usize, matrix, moduli, h, v, w)
+    let outputs = ROOM_H <= h.len() && ROOM_V <= v.len() && ROOM_W <= w.len();
+    let p = checks::problem(m, n, matrix, moduli, true, outputs)?;
+    build_checked(&p, h, v, w)
 }

@@ -1,122 +1,99 @@
-// A problem's start, and the whole run. The problem has a row for each modulus.
-ghost use Rattle.std.specs.Prelude.{◌≡◌, ◌≤◌, length};
-ghost use Rattle.rules.specs.Limits.{room_h, room_v};
-ghost use Rattle.rules.specs.Problem.{C, WellFormed};
-ghost use Rattle.checks.specs.Moduli.{lent_problem, Lists};
-ghost use Rattle.scaling.specs.Problem.{InC, HoldsC, HoldsIdentity, Starts, Ran};
+// A problem's start, and the whole run.
+ghost use Rattle.std.specs.Prelude.{◌≡◌, true, false, ◌≤◌, MatchResult};
+ghost use Rattle.rules.specs.Problem.{C, N};
+ghost use Rattle.checks.specs.Checks.{problem_of};
+ghost use Rattle.checks.specs.declared.Refusal.TheVariants.{Overflow};
+ghost use Rattle.scaling.specs.Problem.{HoldsC, HoldsIdentity, InC, Ran, Starts};
 
 use crate::numbers::opposite;
-use crate::work::Work;
-use checks::{ModulusRows, ROOM_H, ROOM_V, modulus_rows};
+use crate::work::{Table, Work};
+use checks::{Checked, ROOM_H, ROOM_V, Refusal};
 
-// The entry of C in row i and column c.
-fn entry_of_c(n: usize, matrix: &[i32], moduli: &[i32], q: ModulusRows, i: usize, c: usize) -> i32
-    requires well_formed { WellFormed (lent_problem n matrix.now moduli.now) }
-    requires lists { Lists (lent_problem n matrix.now moduli.now) q }
-    requires in_c { InC (lent_problem n matrix.now moduli.now) i c }
-    ensures { result ≡ C (lent_problem n matrix.now moduli.now) i c }
+// N of R5.1.
+fn columns(p: &Checked<'_>) -> usize
+    ensures value { result ≡ N (problem_of p.now) }
+    ensures few { result ≤ 24 }
 {
-    let s = q.s;
-    if c < s {
-        let k = q.rows[c];
-        if k == i {
-            return opposite(moduli[i]);
-        }
-        return 0;
-    }
-    matrix[i * n + (c - s)]
+    p.n + p.rows.len()
 }
 
-fn fill_c(t: &mut [i32; ROOM_H], n: usize, matrix: &[i32], moduli: &[i32], q: ModulusRows)
-    requires t_len { length t.old ≡ room_h }
-    requires well_formed { WellFormed (lent_problem n matrix.now moduli.now) }
-    requires lists { Lists (lent_problem n matrix.now moduli.now) q }
-    ensures { HoldsC (lent_problem n matrix.now moduli.now) t.new t.old }
+// The entry of C in row i and column c.
+fn entry_of_c(p: &Checked<'_>, i: usize, c: usize) -> i32
+    requires { InC (problem_of p.now) i c }
+    ensures { result ≡ C (problem_of p.now) i c }
 {
-    let cols = n + q.s;
-    let mut k = 0;
-    while k < moduli.len() * cols {
-        let x = entry_of_c(n, matrix, moduli, q, k / cols, k % cols);
-        t[k] = x;
-        k += 1;
+    match p.rows.get(c) {
+        Some(k) if *k == i => opposite(p.moduli[i]),
+        Some(_) => 0,
+        None => p.matrix[i * p.n + (c - p.rows.len())],
+    }
+}
+
+fn fill_c(t: &mut [i32; ROOM_H], p: &Checked<'_>)
+    ensures { HoldsC (problem_of p.now) t.new t.old }
+{
+    let cols = columns(p);
+    for (k, entry) in t[..p.moduli.len() * cols].iter_mut().enumerate() {
+        *entry = entry_of_c(p, k / cols, k % cols);
     }
 }
 
 // 1 on the diagonal of n by n entries, in a list of zeros.
 fn fill_identity(a: &mut [i32; ROOM_V], n: usize)
-    requires { (n ≤ 24) × (length a.old ≡ room_v) }
+    requires { n ≤ 24 }
     ensures { HoldsIdentity n a.new a.old }
 {
-    let mut i = 0;
-    while i < n {
+    for i in 0..n {
         a[i * n + i] = 1;
-        i += 1;
     }
 }
 
-pub fn start(n: usize, matrix: &[i32], moduli: &[i32], q: ModulusRows) -> Work
-    requires well_formed { WellFormed (lent_problem n matrix.now moduli.now) }
-    requires lists { Lists (lent_problem n matrix.now moduli.now) q }
-    ensures { Starts (lent_problem n matrix.now moduli.now) result }
+pub fn start(p: &Checked<'_>) -> Work
+    ensures { Starts (problem_of p.now) result }
 {
-    let mut t: [i32; ROOM_H] = [0; ROOM_H];
-    fill_c(&mut t, n, matrix, moduli, q);
-    let mut v: [i32; ROOM_V] = [0; ROOM_V];
-    fill_identity(&mut v, n + q.s);
-    let w = v;
+    let cols = columns(p);
+    let mut t = [0; ROOM_H];
+    fill_c(&mut t, p);
+    let mut v = [0; ROOM_V];
+    fill_identity(&mut v, cols);
     Work {
-        t: t,
-        v: v,
-        w: w,
+        m: p.moduli.len(),
+        cols,
+        t,
+        v,
+        w: v,
         steps: 0,
         over: false,
     }
 }
 
-// The state at the end, the rank, and the count s of non-zero moduli. Where the state is over, the rank says nothing.
+// The state at the end, and the rank.
 #[derive(Drop)]
 pub struct Outcome {
     pub work: Work,
     pub rank: usize,
-    pub s: usize,
 }
 
-pub fn run(n: usize, matrix: &[i32], moduli: &[i32]) -> Outcome
-    requires { WellFormed (lent_problem n matrix.now moduli.now) }
-    ensures { Ran (lent_problem n matrix.now moduli.now) result }
+// Check 7, which a run makes wherever it could go on.
+fn in_range(work: &Work) -> Result<(), Refusal>
+    ensures { MatchResult result (λ _. work.now.over ≡ false) (λ e. (e ≡ Overflow) × (work.now.over ≡ true)) }
 {
-    let m = moduli.len();
-    let q = modulus_rows(moduli);
-    let s = q.s;
-    let cols = n + s;
-    let first = start(n, matrix, moduli, q);
-    let one = first.rows(m, cols, false, 0, m);
-    let a = one.a;
-    let mut work = one.work;
-    let r = cols - a;
-    let over1 = work.over;
-    if over1 {
-        return Outcome {
-            work: work,
-            rank: r,
-            s: s,
-        };
+    if work.over {
+        Err(Refusal::Overflow)
+    } else {
+        Ok(())
     }
-    work = work.reorder(m, cols, a);
-    let two = work.rows(m, cols, true, r, cols);
-    work = two.work;
-    let over2 = work.over;
-    if over2 {
-        return Outcome {
-            work: work,
-            rank: r,
-            s: s,
-        };
-    }
-    work = work.stage3(m, cols, r);
-    Outcome {
-        work: work,
-        rank: r,
-        s: s,
-    }
+}
+
+pub fn run(p: &Checked<'_>) -> Result<Outcome, Refusal>
+    ensures { Ran (problem_of p.now) result }
+{
+    let one = start(p).rows(Table::T, 0);
+    in_range(&one.work)?;
+    let rank = one.work.cols - one.a;
+    let two = one.work.reorder(one.a).rows(Table::V, rank);
+    in_range(&two.work)?;
+    let work = two.work.stage3(rank);
+    in_range(&work)?;
+    Ok(Outcome { work, rank })
 }

@@ -1,30 +1,31 @@
 // The work state, its three column steps, and the stages over them.
-ghost use Rattle.std.specs.Prelude.{◌≡◌, cond, ◌<◌, ◌≤◌, ◌+◌, ◌*◌, length, nat_abs, neg_ℤ, pos};
-ghost use Rattle.std.specs.Int.Signed.{quot_z, lt_z};
-ghost use Rattle.whole.specs.Division.{floor_z};
-ghost use Rattle.whole.specs.Lists.{nth};
-ghost use Rattle.rules.specs.Limits as limits;
-ghost use Rattle.rules.specs.Steps.{swap_step, negate_step, add_step};
-ghost use Rattle.rules.specs.Steps as steps;
-ghost use Rattle.rules.specs.Stages as stages;
-ghost use Rattle.scaling.specs.WorkState.{state_of, Fine, Tracks, Same, One, Two, entries_for};
-ghost use Rattle.scaling.specs.Scan.{sizes, Other, better_of, Comparable, Divisible, Divisors, Unreduced, Lowest};
-ghost use Rattle.scaling.specs.Rows.{Ready, Eliminated, Pivot, Apart, AllReduced, RowBegun, RowDone, RowsBegun, RowsDone, Stage3Begun};
+ghost use Rattle.scaling.specs.Sound.{Sound};
 
-use crate::numbers::{cut, floor, is_negative, is_none, minus, size};
-use crate::strided::{
-    add_t, add_v, either, negate_t, negate_v, rotate_t, rotate_v, swap_t, swap_v,
+use crate::scan::{
+    better, filled, floor_quotient, negative, next_pivot, other, pivot_row, quotient, unreduced,
 };
-use checks::{ROOM_H, ROOM_V, is_zero};
+use crate::strided::{add, negate, rotate, swap};
+use checks::{ROOM_H, ROOM_V};
 
 // T is m by cols, V and W are cols by cols, row after row without gaps; cols is N of R5.1.
+// The flag `over` is part of the state by R13.2, and so are T, V, W and the count.
 #[derive(Drop)]
 pub struct Work {
+    pub m: usize,
+    pub cols: usize,
     pub t: [i32; ROOM_H],
     pub v: [i32; ROOM_V],
     pub w: [i32; ROOM_V],
     pub steps: u64,
     pub over: bool,
+    pub ghost sound: { Sound m cols t v w over },
+}
+
+// The table that a stage looks at: V in stage 2, else T.
+#[derive(Clone, Copy)]
+pub enum Table {
+    T,
+    V,
 }
 
 // A stage's state, and the number of columns that stay active.
@@ -34,176 +35,119 @@ pub struct Progress {
     pub a: usize,
 }
 
-// The table that a stage looks at: V in stage 2, else T.
-pub fn table<'a>(t: &'a [i32; ROOM_H], v: &'a [i32; ROOM_V], stage2: bool) -> &'a [i32]
-    ensures { result.now ≡ entries_for stage2 t.now v.now }
-{
-    if stage2 { v } else { t }
-}
-
-// The lowest column from lo to hi, other than p, whose entry in the row at base is not 0; hi where there is none.
-pub fn other(x: &[i32], base: usize, p: usize, lo: usize, hi: usize) -> usize
-    requires { (lo ≤ hi) × (hi + base ≤ length x.now) }
-    ensures { Other x.now base p lo hi result }
-{
-    let mut j = lo;
-    while j < hi {
-        if j != p {
-            if !is_zero(x[j + base]) {
-                return j;
-            }
-        }
-        j += 1;
-    }
-    hi
-}
-
-// The column to keep of two in the row at base: best, which is hi if there is none yet, and j.
-pub fn better(x: &[i32], base: usize, best: usize, j: usize, hi: usize) -> usize
-    requires { Comparable x.now base best j hi }
-    ensures { result ≡ better_of hi (sizes x.now base) best j }
-{
-    let y = size(x[j + base]);
-    if y == 0 {
-        return best;
-    }
-    if best == hi {
-        return j;
-    }
-    let z = size(x[best + base]);
-    if y < z { j } else { best }
-}
-
-// The pivot's column after an addition to column j: j, or p where the entry of j came to 0.
-pub fn next_pivot(x: &[i32], base: usize, p: usize, j: usize) -> usize
-    requires { j + base < length x.now }
-    ensures { result ≡ cond (limits.is_zero (nth x.now (j + base))) p j }
-{
-    if is_zero(x[j + base]) { p } else { j }
-}
-
-// q of (A): minus the quotient of entry j by entry p, which is cut toward zero.
-pub fn quotient(x: &[i32], base: usize, p: usize, j: usize) -> i64
-    requires { Divisible x.now base p j }
-    ensures { result ≡ neg_ℤ (quot_z (nth x.now (j + base)) (nth x.now (p + base))) }
-{
-    let a = x[j + base];
-    let b = x[p + base];
-    minus(cut(a, b))
-}
-
-// The negated floor of entry c by entry b.
-pub fn floor_quotient(x: &[i32], base: usize, b: usize, c: usize) -> i64
-    requires { Divisible x.now base b c }
-    ensures { result ≡ neg_ℤ (floor_z (nth x.now (c + base)) (nth x.now (b + base))) }
-{
-    let y = x[c + base];
-    let z = x[b + base];
-    minus(floor(y, z))
-}
-
-// Whether the entry of column b is negative.
-pub fn negative(x: &[i32], base: usize, b: usize) -> bool
-    requires { b + base < length x.now }
-    ensures { result ≡ lt_z (nth x.now (b + base)) (pos 0) }
-{
-    is_negative(x[b + base])
-}
-
-// The lowest column from lo to hi that is not in range at the pivot in column b; hi where there is none.
-pub fn unreduced(x: &[i32], base: usize, b: usize, lo: usize, hi: usize) -> usize
-    requires { Divisors x.now base b hi }
-    ensures { Unreduced x.now base b lo hi result }
-{
-    let mut c = lo;
-    while c < hi {
-        let q = floor_quotient(x, base, b, c);
-        if !is_none(q) {
-            return c;
-        }
-        c += 1;
-    }
-    hi
-}
-
-// The row of the lowest entry of column c of V that is not 0; cols where there is none.
-pub fn pivot_row(v: &[i32], cols: usize, c: usize) -> usize
-    requires { (c < cols) × (cols * cols ≤ length v.now) }
-    ensures { Lowest v.now cols c result }
-{
-    let mut k = cols;
-    while 0 < k {
-        k -= 1;
-        if !is_zero(v[c + k * cols]) {
-            return k;
-        }
-    }
-    cols
-}
-
 impl Work {
+    ghost use Rattle.std.specs.Prelude.{◌≡◌, ◌<◌, ◌≤◌, nat_abs};
+    ghost use Rattle.rules.specs.Steps.{swap_step, negate_step, add_step};
+    ghost use Rattle.rules.specs.Steps as steps;
+    ghost use Rattle.rules.specs.Stages as stages;
+    ghost use Rattle.scaling.specs.WorkState.{
+      state_of,
+      Tracks,
+      Same,
+      One,
+      Two,
+      Reorders,
+      entries_for,
+      height_for,
+      RowOf,
+    };
+    ghost use Rattle.scaling.specs.Rows.{
+      Ready,
+      Eliminated,
+      Pivot,
+      Apart,
+      AllReduced,
+      RowBegun,
+      RowDone,
+      RowsBegun,
+      RowsDone,
+      Stage3Begun,
+    };
+
     // Columns i and j of T and V, rows i and j of W.
-    pub fn swap(mut self, m: usize, cols: usize, i: usize, j: usize) -> Work
-        requires fine { Fine m cols self }
-        requires two { Two cols i j self }
-        ensures { Same m cols result (swap_step i j (state_of m cols self)) }
+    pub fn swap(mut self, i: usize, j: usize) -> Work
+        requires { Two i j self }
+        ensures { Same self.m self.cols result (swap_step i j (state_of self)) }
     {
-        swap_t(&mut self.t, i, j, cols, m);
-        swap_v(&mut self.v, i, j, cols, cols);
-        swap_v(&mut self.w, i * cols, j * cols, 1, cols);
-        self.steps = self.steps + 1;
+        let (m, cols) = (self.m, self.cols);
+        swap(&mut self.t, i, j, cols, m);
+        swap(&mut self.v, i, j, cols, cols);
+        swap(&mut self.w, i * cols, j * cols, 1, cols);
+        self.steps += 1;
         self
     }
 
-    pub fn negate(mut self, m: usize, cols: usize, i: usize) -> Work
-        requires fine { Fine m cols self }
-        requires one { One cols i self }
-        ensures { Same m cols result (negate_step i (state_of m cols self)) }
+    pub fn negate(mut self, i: usize) -> Work
+        requires { One i self }
+        ensures { Same self.m self.cols result (negate_step i (state_of self)) }
     {
-        negate_t(&mut self.t, i, cols, m);
-        negate_v(&mut self.v, i, cols, cols);
-        negate_v(&mut self.w, i * cols, 1, cols);
-        self.steps = self.steps + 1;
+        let (m, cols) = (self.m, self.cols);
+        negate(&mut self.t, i, cols, m);
+        negate(&mut self.v, i, cols, cols);
+        negate(&mut self.w, i * cols, 1, cols);
+        self.steps += 1;
         self
     }
 
     // Column j gains q times column i in T and V; in W row i loses q times row j.
-    pub fn add(mut self, m: usize, cols: usize, i: usize, j: usize, q: i64) -> Work
-        requires fine { Fine m cols self }
-        requires two { Two cols i j self }
+    pub fn add(mut self, i: usize, j: usize, q: i64) -> Work
+        requires two { Two i j self }
         requires q_bound { nat_abs q ≤ 2147483648 }
-        ensures { Tracks m cols result (add_step i j q (state_of m cols self)) }
+        ensures { Tracks self.m self.cols result (add_step i j q (state_of self)) }
     {
-        let a = add_t(&mut self.t, j, i, cols, m, q);
-        let b = add_v(&mut self.v, j, i, cols, cols, q);
-        let p = minus(q);
-        let c = add_v(&mut self.w, i * cols, j * cols, 1, cols, p);
-        self.over = either(a, either(b, c));
-        self.steps = self.steps + 1;
+        let (m, cols) = (self.m, self.cols);
+        let a = add(&mut self.t, j, i, cols, m, q);
+        let b = add(&mut self.v, j, i, cols, cols, q);
+        let c = add(&mut self.w, i * cols, j * cols, 1, cols, -q);
+        self.over = a | b | c;
+        self.steps += 1;
         self
     }
 
     // The columns after a come before columns 0 to a, and the rows of W likewise.
-    pub fn reorder(mut self, m: usize, cols: usize, a: usize) -> Work
-        requires fine { Fine m cols self }
-        requires cols_nonzero { (0 < cols) × (a ≤ cols) }
-        ensures { Same m cols result (steps.reorder a (state_of m cols self)) }
+    pub fn reorder(mut self, a: usize) -> Work
+        requires { Reorders a self }
+        ensures { Same self.m self.cols result (steps.reorder a (state_of self)) }
     {
-        let t = self.t;
-        let v = self.v;
-        let w = self.w;
-        rotate_t(&mut self.t, &t, m, cols, a);
-        rotate_v(&mut self.v, &v, cols, cols, a);
-        rotate_v(&mut self.w, &w, 1, cols * cols, a * cols);
+        let (m, cols) = (self.m, self.cols);
+        rotate(&mut self.t, m, cols, a);
+        rotate(&mut self.v, cols, cols, a);
+        rotate(&mut self.w, 1, cols * cols, a * cols);
         self
+    }
+
+    fn table(&self, which: Table) -> &[i32]
+        ensures { result.now ≡ entries_for which self.now }
+    {
+        match which {
+            Table::T => &self.t,
+            Table::V => &self.v,
+        }
+    }
+
+    // How many rows the table has.
+    fn height(&self, which: Table) -> usize
+        ensures { result ≡ height_for which self.now }
+    {
+        match which {
+            Table::T => self.m,
+            Table::V => self.cols,
+        }
+    }
+
+    // Row k of the table.
+    fn row_of(&self, which: Table, k: usize) -> &[i32]
+        requires { k < height_for which self.now }
+        ensures { RowOf which k self.now result.now }
+    {
+        let start = k * self.cols;
+        &self.table(which)[start..start + self.cols]
     }
 
     // (A), once and then again, until one column is left or a value is beyond M: q times column p is added to column j.
     fn eliminate(
         mut self,
-        m: usize,
-        cols: usize,
-        stage2: bool,
+        which: Table,
         row: usize,
         lo: usize,
         a: usize,
@@ -211,153 +155,113 @@ impl Work {
         j: usize,
         q: i64,
     ) -> Work
-        requires fine { Fine m cols self }
-        requires ready { Ready stage2 m cols row lo a p j q self }
-        ensures { Eliminated stage2 m cols row lo a self result }
+        requires { Ready which row lo a p j q self }
+        ensures { Eliminated which row lo a self result }
     {
-        let base = row * cols;
-        let work = self.add(m, cols, p, j, q);
-        let x = table(&work.t, &work.v, stage2);
-        let next = next_pivot(x, base, p, j);
-        let k = other(x, base, next, lo, a);
-        let over = work.over;
-        if either(over, k == a) {
-            self = work;
-            return self;
+        let work = self.add(p, j, q);
+        if work.over {
+            return work;
         }
-        let r = quotient(x, base, next, k);
-        self = work.eliminate(m, cols, stage2, row, lo, a, next, k, r);
+        let x = work.row_of(which, row);
+        let next = next_pivot(x, p, j);
+        let Some(k) = other(x, next, lo, a) else {
+            return work;
+        };
+        let r = quotient(x, next, k);
+        // Into the memory of self, so that a level takes room for two states and not for three.
+        self = work.eliminate(which, row, lo, a, next, k, r);
         self
     }
 
     // Columns lo to hi come into range, in order.
-    fn reduce_all(
-        mut self,
-        m: usize,
-        cols: usize,
-        stage2: bool,
-        row: usize,
-        b: usize,
-        lo: usize,
-        hi: usize,
-    ) -> Work
-        requires fine { Fine m cols self }
-        requires pivot { Pivot stage2 m cols row b self cols }
-        requires apart { Apart cols b lo hi }
-        ensures { AllReduced stage2 m cols row b lo hi self result }
+    fn reduce_all(mut self, which: Table, row: usize, b: usize, lo: usize, hi: usize) -> Work
+        requires pivot { Pivot which row b self self.cols }
+        requires apart { Apart self.cols b lo hi }
+        ensures { AllReduced which row b lo hi self result }
     {
-        let mut c = lo;
-        while c < hi {
-            let x = table(&self.t, &self.v, stage2);
-            let q = floor_quotient(x, row * cols, b, c);
-            if !is_none(q) {
-                self = self.add(m, cols, b, c, q);
-                let over = self.over;
-                if over {
+        for c in lo..hi {
+            let q = floor_quotient(self.row_of(which, row), b, c);
+            let in_range = q == 0;
+            if !in_range {
+                self = self.add(b, c, q);
+                if self.over {
                     return self;
                 }
             }
-            c += 1;
         }
         self
     }
 
     // (A) and (B) in a row whose smallest entry stands in column p.
-    fn row(
-        mut self,
-        m: usize,
-        cols: usize,
-        stage2: bool,
-        k: usize,
-        lo: usize,
-        a: usize,
-        p: usize,
-    ) -> Work
-        requires fine { Fine m cols self }
-        requires row_begun { RowBegun stage2 m cols k lo a p self }
-        ensures { RowDone stage2 m cols k lo a self result }
+    fn row(mut self, which: Table, k: usize, lo: usize, a: usize, p: usize) -> Work
+        requires { RowBegun which k lo a p self }
+        ensures { RowDone which k lo a self result }
     {
-        let base = k * cols;
-        let x = table(&self.t, &self.v, stage2);
-        let j = other(x, base, p, lo, a);
-        if j != a {
-            let q = quotient(x, base, p, j);
-            self = self.eliminate(m, cols, stage2, k, lo, a, p, j, q);
-            let over = self.over;
-            if over {
+        let x = self.row_of(which, k);
+        if let Some(j) = other(x, p, lo, a) {
+            let q = quotient(x, p, j);
+            self = self.eliminate(which, k, lo, a, p, j, q);
+            if self.over {
                 return self;
             }
         }
         let b = a - 1;
-        let y = table(&self.t, &self.v, stage2);
-        let left = other(y, base, a, lo, a);
+        // (A) leaves a column that is not 0.
+        let left = filled(self.row_of(which, k), lo, a).unwrap();
         if left != b {
-            self = self.swap(m, cols, left, b);
+            self = self.swap(left, b);
         }
-        let z = table(&self.t, &self.v, stage2);
-        if negative(z, base, b) {
-            self = self.negate(m, cols, b);
+        if negative(self.row_of(which, k), b) {
+            self = self.negate(b);
         }
-        let w = table(&self.t, &self.v, stage2);
-        let c = unreduced(w, base, b, a, cols);
-        if c < cols {
-            self = self.reduce_all(m, cols, stage2, k, b, c, cols);
+        let cols = self.cols;
+        if let Some(c) = unreduced(self.row_of(which, k), b, a, cols) {
+            self = self.reduce_all(which, k, b, c, cols);
         }
         self
     }
 
-    // All rows from the last to the first, each passed over where its active columns are all zero.
-    pub fn rows(mut self, m: usize, cols: usize, stage2: bool, lo: usize, height: usize) -> Progress
-        requires fine { Fine m cols self }
-        requires rows_begun { RowsBegun stage2 m cols lo height self }
-        ensures { RowsDone stage2 m cols lo height self result.work result.a }
+    // All rows from the last to the first, each passed over where its active columns are all zero. R13.1 gives the form of the loops.
+    pub fn rows(mut self, which: Table, lo: usize) -> Progress
+        requires { RowsBegun which lo self }
+        ensures { RowsDone which lo self result.work result.a }
     {
-        let mut a = cols;
-        let mut k = height;
-        'rows: while 0 < k {
-            k -= 1;
-            let base = k * cols;
-            let mut best = a;
-            let mut j = lo;
+        let mut a = self.cols;
+        'rows: for k in (0..self.height(which)).rev() {
+            let x = self.row_of(which, k);
+            let mut best = None;
+            let mut columns = lo..a;
             let p = loop {
-                if a <= j {
-                    if best == a {
+                let Some(j) = columns.next() else {
+                    let Some(p) = best else {
                         continue 'rows;
-                    }
-                    break best;
-                }
-                let x = table(&self.t, &self.v, stage2);
-                best = better(x, base, best, j, a);
-                j += 1;
+                    };
+                    break p;
+                };
+                best = better(x, best, j);
             };
-            self = self.row(m, cols, stage2, k, lo, a, p);
+            self = self.row(which, k, lo, a, p);
             a -= 1;
-            let over = self.over;
-            if over {
-                return Progress { work: self, a: a };
+            if self.over {
+                return Progress { work: self, a };
             }
         }
-        Progress { work: self, a: a }
+        Progress { work: self, a }
     }
 
     // The first r columns of V come into range at every pivot row of the others, from the bottom row up.
-    pub fn stage3(mut self, m: usize, cols: usize, r: usize) -> Work
-        requires fine { Fine m cols self }
-        requires stage3begun { Stage3Begun cols r self }
-        ensures { Tracks m cols result (stages.stage3 cols r cols (state_of m cols self)) }
+    pub fn stage3(mut self, r: usize) -> Work
+        requires { Stage3Begun r self }
+        ensures { Tracks self.m self.cols result (stages.stage3 self.cols r self.cols (state_of self)) }
     {
-        let mut c = cols;
-        while r < c {
-            c -= 1;
-            let k = pivot_row(&self.v, cols, c);
-            if k < cols {
-                let j = unreduced(&self.v, k * cols, c, 0, r);
-                if j < r {
-                    self = self.reduce_all(m, cols, true, k, c, j, r);
-                    let over = self.over;
-                    if over {
-                        return self;
-                    }
+        for c in (r..self.cols).rev() {
+            let Some(k) = pivot_row(&self.v, self.cols, c) else {
+                continue;
+            };
+            if let Some(j) = unreduced(self.row_of(Table::V, k), c, 0, r) {
+                self = self.reduce_all(Table::V, k, c, j, r);
+                if self.over {
+                    return self;
                 }
             }
         }

@@ -1,32 +1,41 @@
-use Rattle.std.proofs.Common.{◌≡◌, ◌+◌, ◌-◌, ◌*◌, ◌∙◌, get_or, sym, arith}
-use borrow.Author.Rules.{rules}
+-- The rows with a modulus are listed in `p`, so that its list says which entry stands there.
+use Rattle.std.proofs.Common.{◌≡◌, ℕ, List, true, nat_lt, ◌+◌, ◌-◌, ◌*◌, ◌∙◌, ◌<◌, ap, get_or, length, sym, rules, arith}
+use borrow.Author.Tests.{ltb-true, ltb-false}
 use mir.Facts.{to_z-of_z}
 use mir.Syntax.{w32}
 use mir.Val.{SFits}
+use Rattle.std.proofs.lemmas.List.{get_or_default}
 use Rattle.whole.specs.Lists.{nth}
+use Rattle.rules.specs.Problem.{s}
+use Rattle.checks.specs.Checks.{problem_of}
+use Rattle.checks.specs.declared.lent.Checked.{Checked}
 use Rattle.theory.proofs.ModulusRows.{modulus_row}
-use Rattle.checks.specs.Moduli.{lent_problem}
 use Rattle.scaling.proofs.MatrixC.{C-modulus, C_else, C-quantity}
 use Rattle.scaling.proofs.run.entry_of_c.Goals as goal
 
-pub returns-then-k-i : goal.returns-then-k-i
-returns-then-k-i c =
-    let a = c.args in
-    let q = c.requires.lists in
+listed : (p : Checked) (c k : ℕ) {xs : List ℕ} → xs ≡ p.rows.items → true ≡ nat_lt c (length xs) → k ≡ get_or xs c k
+    → (c < s (problem_of p)) × (k ≡ modulus_row (problem_of p) c)
+listed p c k {xs} e b h =
+    let l = rw (e, p.rows_listed) at (ltb-true _ _ (sym b)) in
+    (l, rw (e, p.rows_listed) at h ∙ get_or_default _ c k 0 l)
+
+pub returns-in-Some : goal.returns-in-Some
+returns-in-Some c =
+    let p = c.args.p.now in
     let r : SFits w32 c.opposite.result = search rules in
-    let p : SFits w32 (nth a.moduli.now a.i) = search rules in
-    let row : get_or a.q.rows a.c 0 ≡ modulus_row (lent_problem a.n a.matrix.now a.moduli.now) a.c = q.rows a.c c.if-c-s.true in
-    rw (to_z-of_z r, c.opposite.ensures, to_z-of_z p) (C-modulus c.requires.well_formed c.requires.in_c (omega (arith, q.count)) (sym row ∙ c.if-k-i.true))
+    let x : SFits w32 (nth p.moduli.now c.args.i) = search rules in
+    let k = listed p c.args.c _ c.deref.ensures.0 c.in-Some.ensures.lookup.0 c.in-Some.ensures.lookup.1 in
+    rw (to_z-of_z r, c.opposite.ensures, to_z-of_z x) (C-modulus p.well_formed c.requires k.0 (sym k.1 ∙ c.if-k-i.true))
 
-pub returns-then-c-s : goal.returns-then-c-s
-returns-then-c-s c =
-    let a = c.args in
-    let q = c.requires.lists in
-    let row : get_or a.q.rows a.c 0 ≡ modulus_row (lent_problem a.n a.matrix.now a.moduli.now) a.c = q.rows a.c c.if-c-s.true in
-    C_else c.requires.well_formed c.requires.in_c (omega (arith, q.count)) (λ e. c.if-k-i.false (row ∙ e))
+pub returns-in-Some-2 : goal.returns-in-Some-2
+returns-in-Some-2 c =
+    let p = c.args.p.now in
+    let k = listed p c.args.c _ c.deref.ensures.0 c.in-Some.ensures.lookup.0 c.in-Some.ensures.lookup.1 in
+    C_else p.well_formed c.requires k.0 (λ e. c.if-k-i.false (k.1 ∙ e))
 
-pub returns : goal.returns
-returns c =
-    let a = c.args in
-    let x : SFits w32 (nth a.matrix.now (a.i * a.n + (a.c - a.q.s))) = search rules in
-    to_z-of_z x ∙ C-quantity c.requires.well_formed c.requires.in_c c.requires.lists.count c.if-c-s.false
+pub returns-in-None : goal.returns-in-None
+returns-in-None c =
+    let p = c.args.p.now in
+    let x : SFits w32 (nth p.matrix.now (c.args.i * p.n + (c.args.c - c.len.result))) = search rules in
+    let l = ltb-false _ _ (sym c.in-None.ensures.lookup.0) in
+    to_z-of_z x ∙ C-quantity p.well_formed c.requires (c.len.ensures.value ∙ ap length p.rows_listed) (omega (arith, ap length c.deref.ensures.0, c.len.ensures.value, l))

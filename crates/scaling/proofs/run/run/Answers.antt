@@ -1,43 +1,46 @@
 -- `run`: each call does a stage of the definition's run, and where a state is over the definition's end is too.
-use Rattle.std.proofs.Common.{ℕ, ◌+◌, ap}
-use Rattle.checks.specs.Moduli.{lent_problem}
-use Rattle.checks.proofs.Listing.{lists-all}
-use Rattle.scaling.proofs.Running.{Started, first_begun, ran_first, second-begun, ran-second, third_begun, ran_third}
+use Rattle.std.proofs.Common.{◌∙◌}
+use Rattle.std.proofs.lemmas.Result.{err_from_is_err_and}
+use Rattle.scaling.proofs.Running.{first_begun, refused-first, reorders, second-begun, refused-second, third_begun, refused-third, ran}
 use Rattle.scaling.proofs.run.run.Goals as goal
-use Rattle.scaling.proofs.run.run.Goals.{After-start-first}
 
--- what is known once the run has started
-started : (c : After-start-first) → Started (lent_problem c.args.n c.args.matrix.now c.args.moduli.now) (c.args.n + c.modulus_rows-q.result.s) c.modulus_rows-q.result.s c.start-first.result
-started c =
-    let all = lists-all c.modulus_rows-q.ensures c.requires.m-high c.args.n c.args.matrix.now in
-    record { columns = ap (λ (x : ℕ). c.args.n + x) all.count; counted = all.count; begun = c.start-first.ensures }
+pub rows-one-requires : goal.rows-one-requires
+rows-one-requires c = first_begun c.args.p.now.well_formed c.start.ensures
 
-pub rows-one-requires-clause-rows_begun : goal.rows-one-requires-clause-rows_begun
-rows-one-requires-clause-rows_begun c =
-    let g = started (goal.at.rows-one-requires-clause-rows_begun c).After-start-first in
-    first_begun g
+pub returns-in_err-in_range : goal.returns-in_err-in_range
+returns-in_err-in_range c =
+    let f = err_from_is_err_and c.from_residual.result c.from_residual.ensures.1 in
+    let h = c.in_err-in_range.ensures in
+    rw f.1 (refused-first c.args.p.now.well_formed c.start.ensures c.rows-one.ensures (f.2 ∙ h.0) h.1)
 
-pub returns-then-over1 : goal.returns-then-over1
-returns-then-over1 c =
-    let g = started (goal.at.returns-then-over1 c).After-start-first in
-    ran_first g c.rows-one.ensures c.if-over1.true
+pub reorder-requires : goal.reorder-requires
+reorder-requires c = reorders c.args.p.now.well_formed c.start.ensures c.rows-one.ensures c.in_ok-in_range.ensures
 
-pub rows-two-requires-clause-rows_begun : goal.rows-two-requires-clause-rows_begun
-rows-two-requires-clause-rows_begun c =
-    let g = started (goal.at.rows-two-requires-clause-rows_begun c).After-start-first in
-    second-begun g c.rows-one.ensures c.if-over1.false c.reorder-work.ensures
+pub rows-two-requires : goal.rows-two-requires
+rows-two-requires c = second-begun c.args.p.now.well_formed c.start.ensures c.rows-one.ensures c.in_ok-in_range.ensures c.reorder.ensures
 
-pub returns-then-over2 : goal.returns-then-over2
-returns-then-over2 c =
-    let g = started (goal.at.returns-then-over2 c).After-start-first in
-    ran-second g c.rows-one.ensures c.if-over1.false c.reorder-work.ensures c.rows-two.ensures c.if-over2.true
+pub returns-in_err-in_range-2 : goal.returns-in_err-in_range-2
+returns-in_err-in_range-2 c =
+    let r = c.from_residual-in_err-in_range-2 in
+    let f = err_from_is_err_and r.result r.ensures.1 in
+    let h = c.in_err-in_range-2.ensures in
+    rw f.1 (refused-second c.args.p.now.well_formed c.start.ensures c.rows-one.ensures c.in_ok-in_range.ensures c.reorder.ensures
+    c.rows-two.ensures (f.2 ∙ h.0) h.1)
 
-pub stage3-work-requires-clause-stage3begun : goal.stage3-work-requires-clause-stage3begun
-stage3-work-requires-clause-stage3begun c =
-    let g = started (goal.at.stage3-work-requires-clause-stage3begun c).After-start-first in
-    third_begun g c.rows-one.ensures c.if-over1.false c.reorder-work.ensures c.rows-two.ensures c.if-over2.false
+pub stage3-work-requires : goal.stage3-work-requires
+stage3-work-requires c =
+    third_begun c.args.p.now.well_formed c.start.ensures c.rows-one.ensures c.in_ok-in_range.ensures c.reorder.ensures c.rows-two.ensures
+    c.in_ok-in_range-2.ensures
+
+pub returns-in_err-in_range-3 : goal.returns-in_err-in_range-3
+returns-in_err-in_range-3 c =
+    let r = c.from_residual-in_err-in_range-3 in
+    let f = err_from_is_err_and r.result r.ensures.1 in
+    let h = c.in_err-in_range-3.ensures in
+    rw f.1 (refused-third c.args.p.now.well_formed c.start.ensures c.rows-one.ensures c.in_ok-in_range.ensures c.reorder.ensures
+    c.rows-two.ensures c.in_ok-in_range-2.ensures c.stage3-work.ensures (f.2 ∙ h.0) h.1)
 
 pub returns : goal.returns
 returns c =
-    let g = started (goal.at.returns c).After-start-first in
-    ran_third g c.rows-one.ensures c.if-over1.false c.reorder-work.ensures c.rows-two.ensures c.if-over2.false c.stage3-work.ensures
+    ran c.args.p.now.well_formed c.start.ensures c.rows-one.ensures c.in_ok-in_range.ensures c.reorder.ensures c.rows-two.ensures
+    c.in_ok-in_range-2.ensures c.stage3-work.ensures c.in_ok-in_range-3.ensures

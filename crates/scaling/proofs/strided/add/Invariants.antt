@@ -1,9 +1,6 @@
-use Rattle.std.proofs.Common.{◌-◌, ◌≡◌, ◌≤◌, false}
+use Rattle.std.proofs.Common.{◌≡◌, false}
 use Rattle.scaling.specs.Strided.{add_f, add_o}
 use Rattle.scaling.proofs.strided.add.Given as goal
 
 abbrev pub invariant-loop-k : goal.invariant-loop-k
-invariant-loop-k l = (l.k ≤ l.count) × (l.a ≡ add_f l.fn.a l.to l.from l.stride l.q l.k) × (add_o l.fn.a l.to l.from l.stride l.q l.k ≡ false)
-
-abbrev pub decreases-loop-k : goal.decreases-loop-k
-decreases-loop-k l = l.count - l.k
+invariant-loop-k l = (l.a ≡ add_f l.fn.a l.to l.from l.stride l.q l.k) × (add_o l.fn.a l.to l.from l.stride l.q l.k ≡ false)

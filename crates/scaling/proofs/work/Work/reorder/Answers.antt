@@ -1,11 +1,12 @@
 -- `Work::reorder`: each of the three loops stays within its list, and together they are the definition's reordering.
 use Rattle.std.proofs.Common.{refl}
-use Rattle.scaling.proofs.State.{long_of}
-use Rattle.scaling.proofs.Steps.{reorder_same}
+use Rattle.scaling.proofs.Steps.{reorder-sound, reorder_same}
 use Rattle.scaling.proofs.work.Work.reorder.Goals as goal
+
+pub invariant_of-self : goal.invariant_of-self
+invariant_of-self c = record { sound = reorder-sound c.args.self c.rotate.auto.a c.rotate-2.auto.a c.rotate-3.auto.a _ _ _ _ c.rotate.ensures c.rotate-2.ensures c.rotate-3.ensures }
 
 pub returns : goal.returns
 returns c =
-    let p = c.requires.cols_nonzero in
-    reorder_same _ c.requires.fine (long_of c.well_formed.0) c.args.a p.0 p.1
-    (record { t = c.rotate_t.ensures; v = c.rotate_v.ensures; w = c.rotate_v-2.ensures; steps = refl; over = refl })
+    reorder_same c.args.self _ c.requires
+    (record { rows = refl; cols = refl; t = c.rotate.ensures; v = c.rotate-2.ensures; w = c.rotate-3.ensures; steps = refl; over = refl })

@@ -1,54 +1,45 @@
-use Rattle.std.proofs.Common.{◌-◌, true, arith}
+use Rattle.std.proofs.Common.{◌-◌, ◌≤◌, arith}
+use Rattle.scaling.specs.declared.work.Table.TheVariants.{V}
 use Rattle.scaling.specs.Rows.{Pivot}
-use Rattle.scaling.proofs.State.{long_of}
-use Rattle.scaling.proofs.TableRow.{RowOfTable, row_of-v}
 use Rattle.scaling.proofs.Settling.{pivot_divisors, reduced_rest, reduced_none}
 use Rattle.scaling.proofs.ThirdStage.{third_end, third_pass, third_pivot, third_next, third_over}
 use Rattle.scaling.proofs.work.Work.stage3.Goals as goal
-use Rattle.scaling.proofs.work.Work.stage3.Goals.{Then-k-cols}
+use Rattle.scaling.proofs.work.Work.stage3.Goals.{After-row_of}
 
--- ---- what is known of the pivot's row, where it is there
-module _ (c : Then-k-cols) where
-  row : RowOfTable true c.args.m c.args.cols c.pivot_row-k.result c.loop-c.self c.loop-c.self.v
-  row = row_of-v c.loop-c.invariant.0.fine c.if-k-cols.true c.loop-c.invariant.1.v
+pub loop-c-preserved-in_default : goal.loop-c-preserved-in_default
+loop-c-preserved-in_default c = third_pass c.requires c.loop-c.invariant c.loop-c-test.true c.in_default.ensures
 
-  pivot : Pivot true c.args.m c.args.cols c.pivot_row-k.result (c.loop-c.c - 1) c.loop-c.self c.args.cols
-  pivot = third_pivot c.requires.stage3begun c.loop-c.invariant.0 c.loop-c-test.true c.pivot_row-k.ensures c.if-k-cols.true
+-- ---- the pivot's row, where there is one
+module _ (c : After-row_of) where
+  pivot : Pivot V c.in-Some.k (c.loop-c.c - 1) c.loop-c.self c.loop-c.self.cols
+  pivot = third_pivot c.requires c.loop-c.invariant c.loop-c-test.true c.in-Some.ensures
 
-pub unreduced-j-requires : goal.unreduced-j-requires
-unreduced-j-requires c = let t = (goal.at.unreduced-j-requires c).Then-k-cols in pivot_divisors (row t) c.loop-c.invariant.0.fine (pivot t) c.requires.stage3begun.r_in
+  fit : c.args.r ≤ c.loop-c.self.cols
+  fit = omega (arith, c.requires.r_in, c.loop-c.invariant.cols)
+
+pub unreduced-requires : goal.unreduced-requires
+unreduced-requires c = pivot_divisors c.row_of.ensures (pivot c) (fit c)
 
 pub reduce_all-self-requires-clause-pivot : goal.reduce_all-self-requires-clause-pivot
-reduce_all-self-requires-clause-pivot c = pivot (goal.at.reduce_all-self-requires-clause-pivot c).Then-k-cols
+reduce_all-self-requires-clause-pivot c = pivot (goal.at.reduce_all-self-requires-clause-pivot c).After-row_of
 
-pub returns-then-over : goal.returns-then-over
-returns-then-over c =
-    let t = (goal.at.returns-then-over c).Then-k-cols in
-    third_over c.requires.stage3begun c.loop-c.invariant.0 c.loop-c-test.true c.pivot_row-k.ensures c.if-k-cols.true
-    (reduced_rest (row t) c.loop-c.invariant.0.fine (pivot t) c.requires.stage3begun.r_in c.unreduced-j.ensures (omega arith) c.reduce_all-self.ensures)
-    c.if-over.true
+pub returns-then-self : goal.returns-then-self
+returns-then-self c =
+    let t = (goal.at.returns-then-self c).After-row_of in
+    third_over c.requires c.loop-c.invariant c.loop-c-test.true c.in-Some.ensures
+    (reduced_rest c.row_of.ensures (pivot t) (fit t) c.in-Some-unreduced.ensures c.reduce_all-self.ensures) c.if-self.true
 
-pub loop-c-preserved-else-over : goal.loop-c-preserved-else-over
-loop-c-preserved-else-over c =
-    let t = (goal.at.loop-c-preserved-else-over c).Then-k-cols in (
-      third_next c.requires.stage3begun c.loop-c.invariant.0 c.loop-c-test.true c.pivot_row-k.ensures c.if-k-cols.true
-          (reduced_rest (row t) c.loop-c.invariant.0.fine (pivot t) c.requires.stage3begun.r_in c.unreduced-j.ensures (omega arith) c.reduce_all-self.ensures)
-          c.if-over.false,
-      long_of c.reduce_all-self.type_inv,
-    )
-
-pub loop-c-preserved-else-j-r : goal.loop-c-preserved-else-j-r
-loop-c-preserved-else-j-r c =
-    let t = (goal.at.loop-c-preserved-else-j-r c).Then-k-cols in let f = c.loop-c.invariant.0.fine in (
-      third_next c.requires.stage3begun c.loop-c.invariant.0 c.loop-c-test.true c.pivot_row-k.ensures c.if-k-cols.true
-          (reduced_none (row t) f (pivot t) c.requires.stage3begun.r_in c.unreduced-j.ensures (omega arith) c.if-j-r.false)
-          f.clear,
-      c.loop-c.invariant.1,
-    )
+pub loop-c-preserved-else-self : goal.loop-c-preserved-else-self
+loop-c-preserved-else-self c =
+    let t = (goal.at.loop-c-preserved-else-self c).After-row_of in
+    third_next c.requires c.loop-c.invariant c.loop-c-test.true c.in-Some.ensures
+    (reduced_rest c.row_of.ensures (pivot t) (fit t) c.in-Some-unreduced.ensures c.reduce_all-self.ensures) c.if-self.false
 
 pub loop-c-preserved : goal.loop-c-preserved
 loop-c-preserved c =
-    (third_pass c.requires.stage3begun c.loop-c.invariant.0 c.loop-c-test.true c.pivot_row-k.ensures c.if-k-cols.false, c.loop-c.invariant.1)
+    let t = (goal.at.loop-c-preserved c).After-row_of in
+    third_next c.requires c.loop-c.invariant c.loop-c-test.true c.in-Some.ensures
+    (reduced_none c.row_of.ensures (pivot t) (fit t) (omega arith) c.in_default-unreduced.ensures) c.loop-c.invariant.clear
 
 pub returns : goal.returns
-returns c = third_end c.requires.stage3begun c.loop-c.invariant.0 c.loop-c-test.false
+returns c = third_end c.requires c.loop-c.invariant c.loop-c-test.false

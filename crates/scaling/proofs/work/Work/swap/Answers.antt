@@ -1,11 +1,12 @@
 -- `Work::swap`: each of the three loops stays within its list, and together they are the definition's step.
 use Rattle.std.proofs.Common.{refl}
-use Rattle.scaling.proofs.State.{long_of}
-use Rattle.scaling.proofs.Steps.{swap_same}
+use Rattle.scaling.proofs.Steps.{swap-sound, swap_same}
 use Rattle.scaling.proofs.work.Work.swap.Goals as goal
+
+pub invariant_of-self : goal.invariant_of-self
+invariant_of-self c = record { sound = swap-sound c.args.self c.swap.auto.a c.swap-2.auto.a c.swap-3.auto.a _ _ _ _ c.swap.ensures c.swap-2.ensures c.swap-3.ensures }
 
 pub returns : goal.returns
 returns c =
-    let p = c.requires.two in
-    swap_same _ c.requires.fine (long_of c.well_formed.0) c.args.i c.args.j p.i_in p.j_in p.apart
-    (record { t = c.swap_t.ensures; v = c.swap_v.ensures; w = c.swap_v-2.ensures; steps = refl; over = refl })
+    swap_same c.args.self _ c.requires
+    (record { rows = refl; cols = refl; t = c.swap.ensures; v = c.swap-2.ensures; w = c.swap-3.ensures; steps = refl; over = refl })
