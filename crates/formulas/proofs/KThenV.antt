@@ -1,66 +1,51 @@
--- k followed by v, written entry after entry into an array of 24: the entries written so far are those of a function, and none is too large.
-use mathlib.Core.Path.{◌≡◌, sym, ◌∙◌}
-use mathlib.Core.List.{List}
-use Prim.Native.Nat.{ℕ, ◌+◌, ◌<◌, ◌≤◌}
-use native.Mathlib.Decide.{ℕ_discrete}
+-- k followed by v: the rows that are listed for k have a modulus, and of v the first n numbers count.
+use mathlib.Core.Path.{◌≡◌, sym, ◌∙◌, ap}
+use mathlib.Core.Bool.{true, false, not}
+use Prim.Native.Nat.{ℕ, ◌+◌, ◌-◌, ◌<◌}
+use native.Mathlib.Decide.{dec_lt}
 use native.Mathlib.Omega.{arith}
-use lib.ListN.{length, get_or, set, replicate, length-set}
-use lib.Seq.{get_or-set_same, get_or-set_other}
-use lib.IntN.{ℤ, pos, nat_abs}
-use Rattle.whole.specs.Lists.{nth}
-use Rattle.whole.proofs.Lists.{nth-replicate}
+use lib.ListN.{get_or}
+use lib.IntN.{ℤ, ◌*ℤ◌}
+use lib.Signed.{quot_z}
 use Rattle.whole.proofs.Order.{non_zero_size}
-use Rattle.rules.specs.Problem.{Problem, s, WellFormed}
-use Rattle.rules.specs.Formulas.{k_then_v}
+use Rattle.whole.proofs.Sum.{sum_cong}
+use Rattle.rules.specs.Limits.{is_zero}
+use Rattle.rules.specs.Problem.{Problem, entry, modulus, modulus_rows, s, N, WellFormed}
+use Rattle.rules.specs.Formulas.{row_times, remainder, weight, is_none, is_free, k_of, k_then_v}
 use Rattle.theory.proofs.ModulusRows.{modulus_row-within, modulus-not-zero}
-use Rattle.theory.proofs.Weights.{k_then_v_first}
-use Rattle.checks.specs.declared.ModulusRows.{ModulusRows}
-use Rattle.checks.specs.Moduli.{Lists}
-use Rattle.formulas.specs.Terms.{most_row_times, Modulus, HoldsK}
-use Rattle.formulas.specs.declared.terms.Exponents.{Exponents}
-
--- the first count entries are those of f
-pub record Begins (f : ℕ → ℤ) (count : ℕ) (xs : List ℤ) : Type 0 where
-  pub all : length xs ≡ 24
-  pub entries : (k : ℕ) → k < count → nth xs k ≡ f k
-  pub small : (k : ℕ) → nat_abs (nth xs k) ≤ most_row_times
-
-pub begins-more : (f : ℕ → ℤ) (c : ℕ) (xs : List ℤ) (x : ℤ) → Begins f c xs → c < 24 → x ≡ f c → nat_abs x ≤ most_row_times
-    → Begins f (c + 1) (set xs c x)
-begins-more f c xs x b h e l = record {
-  all = length-set xs c x ∙ b.all;
-  entries = λ k a. entry k a (ℕ_discrete k c);
-  small = λ k. size k (ℕ_discrete k c);
-}
-  where
-    here : nth (set xs c x) c ≡ x
-    here = get_or-set_same xs c x (pos 0) (omega (arith, b.all))
-
-    entry : (k : ℕ) → k < c + 1 → Dec (k ≡ c) → nth (set xs c x) k ≡ f k
-    entry k a (yes d) = rw d (here ∙ e)
-    entry k a (no d) = get_or-set_other xs c k x (pos 0) d ∙ b.entries k (omega arith)
-
-    size : (k : ℕ) → Dec (k ≡ c) → nat_abs (nth (set xs c x) k) ≤ most_row_times
-    size k (yes d) = rw (d, here) l
-    size k (no d) = rw (get_or-set_other xs c k x (pos 0) d) (b.small k)
-
--- k alone
-pub begins-k : {P : Problem} {v : ℕ → ℤ} {e : Exponents} {c : ℕ} → HoldsK P v e → length e.x ≡ 24 → c ≡ s P → Begins (k_then_v P v) (c + 0) e.x
-begins-k {P} {v} K l e = record {
-  all = l;
-  entries = λ i h. let g : i < s P = omega (arith, e) in K.entries i g ∙ sym (k_then_v_first P v i g);
-  small = K.small;
-}
-
--- an array of zeros
-pub zeros-small : (n k : ℕ) → nat_abs (nth (replicate n (pos 0)) k) ≤ most_row_times
-zeros-small n k = rw (nth-replicate n (pos 0) k) (omega arith)
+use Rattle.theory.proofs.Search.{first_cong}
+use Rattle.theory.proofs.Weights.{k_then_v_first, k_then_v-rest}
+use Rattle.formulas.specs.Terms.{Modulus}
 
 -- the row that is listed for k's entry c has a modulus
-pub listed-modulus : {P : Problem} {q : ModulusRows} → WellFormed P → Lists P q → (c : ℕ) → c < q.s → Modulus P (get_or q.rows c 0)
-listed-modulus {P} F L c h =
-    let l : c < s P = omega (arith, L.count) in
-    rw (L.rows c h) (record {
-      row = modulus_row-within P F.moduli c l;
-      filled = non_zero_size _ (modulus-not-zero P c l);
-    })
+pub listed-modulus : {P : Problem} → WellFormed P → (c : ℕ) → c < s P → Modulus P (get_or (modulus_rows P) c 0)
+listed-modulus {P} F c l = record {
+  row = modulus_row-within P F.moduli c l;
+  filled = non_zero_size _ (modulus-not-zero P c l);
+}
+
+-- two functions that agree on the n quantities weigh the same, and have the same k followed by v
+module _ (P : Problem) {u v : ℕ → ℤ} (same : (j : ℕ) → j < P.n → u j ≡ v j) where
+  row-alike : (i : ℕ) → row_times P u i ≡ row_times P v i
+  unfolding row_times
+  row-alike i = sum_cong P.n (λ j. entry P i j *ℤ u j) (λ j. entry P i j *ℤ v j) (λ j l. ap (λ z. entry P i j *ℤ z) (same j l))
+
+  weight-alike : (i : ℕ) → weight P u i ≡ weight P v i
+  unfolding weight
+  weight-alike i = ap (λ x. elim (is_zero (modulus P i)) as (λ _. ℤ) [ true ↦ x | false ↦ remainder x (modulus P i) ]) (row-alike i)
+
+  pub free-alike : is_free P u ≡ is_free P v
+  unfolding is_free
+  free-alike = ap is_none (first_cong _ _ 0 P.m (λ i _. ap (λ x. not (is_zero x)) (weight-alike i)))
+
+  pub k_then_v-alike : (c : ℕ) → c < N P → k_then_v P u c ≡ k_then_v P v c
+  unfolding k_of
+  k_then_v-alike c h = go (dec_lt c (s P))
+    where
+      go : Dec (c < s P) → k_then_v P u c ≡ k_then_v P v c
+      go (yes l) =
+          let i : ℕ = get_or (modulus_rows P) c 0 in
+          k_then_v_first P u c l ∙ ap (λ x. quot_z x (modulus P i)) (row-alike i) ∙ sym (k_then_v_first P v c l)
+      go (no l) =
+          let e : c ≡ s P + (c - s P) = omega arith in
+          rw e (k_then_v-rest P u (c - s P) ∙ same (c - s P) (omega arith) ∙ sym (k_then_v-rest P v (c - s P)))

@@ -1,133 +1,52 @@
--- A term of a formula, with what the code holds of the problem's run: its exponents in the groups, and the number that refuses it.
-use mathlib.Core.Path.{◌≡◌, refl, ◌∙◌, ap, ap₂}
-use mathlib.Core.Logic.{◌≢◌}
-use mathlib.Core.Bool.{Bool, true, false, not, ◌||◌, cond}
+-- A term of a formula, with W and the rank of the problem's run: its exponents in the groups.
+use mathlib.Core.Path.{◌≡◌, sym, ◌∙◌, ap, ap₂}
 use mathlib.Core.List.{List}
-use Prim.Native.Nat.{ℕ, suc, ◌+◌, ◌-◌, ◌*◌, ◌<◌, ◌≤◌}
+use Prim.Native.Nat.{ℕ, zero, suc, ◌+◌, ◌-◌, ◌*◌, ◌<◌, ◌≤◌}
 use native.Mathlib.Nat.{mul-le-mul}
 use native.Mathlib.Omega.{arith}
-use lib.IntN.{ℤ, ◌*ℤ◌}
-use Rattle.whole.specs.Lists.{nth}
+use lib.ListN.{length, take, drop}
+use lib.IntN.{ℤ, pos, nat_abs, ◌*ℤ◌}
+use Rattle.whole.specs.Lists.{nth, tab}
+use Rattle.whole.proofs.Lists.{length-tab, nth-tab}
 use Rattle.whole.proofs.Sum.{sum_cong}
-use Rattle.whole.specs.Matrix.{Matrix}
-use Rattle.rules.specs.Limits.{most_terms, room_exponents, beyond}
-use Rattle.rules.specs.Search.{first}
 use Rattle.rules.specs.Problem.{Problem, N, WellFormed}
 use Rattle.rules.specs.Stages.{run, W}
-use Rattle.rules.specs.Formulas.{Formula, term, terms, is_none, is_free, k_then_v, d, translated, passes, WellFormedFormula}
-use Rattle.rules.specs.Calls.{term_refused, term_number}
-use Rattle.theory.proofs.Search.{first_cong}
-use Rattle.theory.proofs.Accepted.{term-accepted}
-use Rattle.formulas.specs.declared.terms.Exponents.{Exponents}
-use Rattle.checks.specs.declared.ModulusRows.{ModulusRows}
-use Rattle.formulas.specs.Terms.{Monomial, KThenV, row_of_w, RowsOfW, one_beyond, NoneBeyond}
-use Rattle.formulas.specs.FormulaPromises.{Prepared, judged}
-use Rattle.checks.proofs.Values.{not_beyond}
+use Rattle.rules.specs.Formulas.{k_then_v, translated}
+use Rattle.theory.proofs.Sizes.{LimitedExponents, N-le_24, k_then_v_size}
+use Rattle.formulas.specs.Terms.{Factors, dot_of}
+use Rattle.formulas.specs.FormulaPromises.{Solved}
+use Rattle.formulas.proofs.Weighing.{length-part, dot-row}
 
--- ---- the exponents in the groups
-module _ {P : Problem} {q : ModulusRows} {w : List ℤ} {r : ℕ} (A : Prepared P q w r) where
-  -- as the code counts them
-  abbrev cols : ℕ
-  cols = P.n + q.s
+-- row i of at most 24, of 24 numbers at most, stands in 576
+pub row_in : (i n : ℕ) → i < n → n ≤ 24 → (i + 1) * n ≤ 576
+row_in i n h l = let a : suc i * n ≤ 24 * 24 = mul-le-mul {n₂ = 24} (omega arith) l in omega arith
 
-  cols_are : cols ≡ N P
-  cols_are = ap (λ k. P.n + k) A.lists.count
+tab-small : (n b : ℕ) (f : ℕ → ℤ) → ((i : ℕ) → i < n → nat_abs (f i) ≤ b) → (c : ℕ) → nat_abs (nth (tab n f) c) ≤ b
+tab-small zero b f h c = omega arith
+tab-small (suc n) b f h zero = h 0 (omega arith)
+tab-small (suc n) b f h (suc c) = tab-small n b (λ i. f (suc i)) (λ i l. h (suc i) (omega arith)) c
 
-  pub groups_are : cols - r ≡ d P (run P)
-  groups_are = ap₂ ◌-◌ cols_are A.solved.rank
+-- row i of W times k followed by v
+module _ {P : Problem} (F : WellFormed P) {w e : List ℤ} {r n : ℕ} (S : Solved P w r) (n-is : n ≡ N P) (v : ℕ → ℤ) (small : LimitedExponents P v)
+    (e-is : e ≡ tab (N P) (k_then_v P v)) (i : ℕ) (upto : i < n) where
+  one : (i + 1) * n - i * n ≡ n
+  one = omega arith
 
-  pub few-cols : cols ≤ 24
-  few-cols = omega (arith, A.well_formed.n-high, A.lists.few)
+  inside : i * n + n ≤ length w
+  inside = omega (arith, row_in i n upto (rw n-is (N-le_24 P F)), S.length)
 
-  pub rank_in : r ≤ cols
-  rank_in = omega (arith, cols_are, A.solved.upto)
+  pub factors : Factors (take ((i + 1) * n - i * n) (drop (i * n) w)) e
+  factors = rw (one, e-is) (record {
+    few = rw (length-part w (i * n) n inside, n-is) (N-le_24 P F);
+    same = length-tab (N P) (k_then_v P v) ∙ sym (length-part w (i * n) n inside ∙ n-is);
+    small = tab-small (N P) 160_000_000 (k_then_v P v) (k_then_v_size P F v small);
+  })
 
-  pub room_for_terms : (t : ℕ) → t ≤ most_terms → t * (cols - r) ≤ room_exponents
-  room_for_terms t h =
-      let few : cols - r ≤ 16 = omega (arith, cols_are, A.solved.groups, A.well_formed.n-high) in
-      mul-le-mul h few
-
-  module _ {v : ℕ → ℤ} {e : Exponents} (K : KThenV P v e) where
-    pub rows_in : RowsOfW w cols r e
-    rows_in = record {
-      few = few-cols;
-      r_in = rank_in;
-      length = omega (arith, A.solved.length, mul-le-mul few-cols few-cols);
-      w-small = A.solved.small;
-      e-small = K.small;
-    }
-
-    pub exponent_is : (g : ℕ) → g < cols - r → row_of_w w cols (r + g) e.x ≡ translated P (run P) v g
-    unfolding translated
-    exponent_is g h =
-        let row_in : r + g < N P = omega (arith, cols_are) in
-        ap (λ k. row_of_w w k (r + g) e.x) cols_are
-        ∙ sum_cong (N P) (λ c. nth w ((r + g) * N P + c) *ℤ nth e.x c) (λ c. W (run P) ((run P).rank + g) c *ℤ k_then_v P v c)
-        (λ c l. ap₂ ◌*ℤ◌ (A.solved.entries (r + g) c row_in l ∙ ap (λ k. W (run P) (k + g) c) A.solved.rank) (K.entries c l))
-
-    pub passes_is : one_beyond w cols r e.x ≡ passes P (run P) v
-    unfolding passes
-    passes_is =
-        ap (λ x. not (is_none x))
-        (first_cong (λ g. beyond (row_of_w w cols (r + g) e.x)) (λ g. beyond (translated P (run P) v g)) 0 (cols - r)
-        (λ g i. ap beyond (exponent_is g i.high))
-        ∙ ap (first (λ g. beyond (translated P (run P) v g)) 0) groups_are)
-
-    pub none-beyond : term_refused P (run P) v ≡ false → NoneBeyond w cols r e.x
-    none-beyond t = record {
-      within = λ g h.
-          ap beyond (exponent_is g h)
-          ∙ not_beyond (translated P (run P) v g) ((term-accepted P (run P) v t).1 g (omega (arith, groups_are)));
-    }
-
--- ---- where a term's exponents stand
-module _ {P : Problem} {f : Formula} (F : WellFormed P) (G : WellFormedFormula P f) (t : ℕ) (h : t < terms f) where
-  pub term-place : t * P.n ≤ room_exponents
-  term-place =
-      let few : t ≤ most_terms = omega (arith, G.few) in
-      mul-le-mul few F.n-high
-
-  pub term-monomial : Monomial P.n f.exponents (t * P.n)
-  term-monomial = record {
-    fits = let l : suc t * P.n ≤ terms f * P.n = mul-le-mul h (omega arith) in omega (arith, G.fits);
-    small = G.small;
-  }
-
--- ---- the number of a term, from the two tests
-abbrev pub number_of : (free passing : Bool) → ℕ
-number_of f p = cond (not f || p) (elim f as (λ _. ℕ) [ true ↦ 9 | false ↦ 8 ]) 0
-
-module _ (P : Problem) (v : ℕ → ℤ) where
-  pub judged_by : {f p : Bool} → is_free P v ≡ f → passes P (run P) v ≡ p → judged P v ≡ number_of f p
-  judged_by f p = ap₂ number_of f p
-
-  number-not_0 : term_number P v ≢ 0
-  number-not_0 = go (is_free P v)
-    where
-      go : (b : Bool) → ◌≢◌ {A = ℕ} (elim b [ true ↦ 9 | false ↦ 8 ]) 0
-      go true = λ e. omega arith
-      go false = λ e. omega arith
-
-  -- what a number says of the term
-  pub judged-refused : judged P v ≢ 0 → (term_refused P (run P) v ≡ true) × (judged P v ≡ term_number P v)
-  judged-refused = go (term_refused P (run P) v)
-    where
-      go : (b : Bool) → ◌≢◌ {A = ℕ} (cond b (term_number P v) 0) 0 → (b ≡ true) × (cond b (term_number P v) 0 ≡ term_number P v)
-      go true h = (refl, refl)
-      go false h = absurd (h refl)
-
-  pub judged-taken : judged P v ≡ 0 → term_refused P (run P) v ≡ false
-  judged-taken = go (term_refused P (run P) v)
-    where
-      go : (b : Bool) → cond b (term_number P v) 0 ≡ 0 → b ≡ false
-      go true h = absurd (number-not_0 h)
-      go false h = refl
-
--- ---- over all terms
--- term t is refused
-abbrev pub bad : Problem → Formula → ℕ → Bool
-bad P f t = term_refused P (run P) (term P f t)
-
--- row t holds the exponents of term t
-abbrev pub exponents_of : Problem → Formula → Matrix
-exponents_of P f t g = translated P (run P) (term P f t) g
+  pub exponent_is : r ≤ i → dot_of (take ((i + 1) * n - i * n) (drop (i * n) w)) e ≡ translated P (run P) v (i - r)
+  unfolding translated
+  exponent_is from =
+      let row : (run P).rank + (i - r) ≡ i = omega (arith, S.rank) in
+      let within : i < N P = omega (arith, n-is) in
+      rw (one, row) (dot-row w e (i * n) n inside
+      ∙ rw n-is (sum_cong (N P) (λ c. nth w (i * N P + c) *ℤ nth e c) (λ c. W (run P) i c *ℤ k_then_v P v c)
+      (λ c l. ap₂ ◌*ℤ◌ (S.entries i c within l) (ap (λ x. nth x c) e-is ∙ nth-tab (N P) (k_then_v P v) c (pos 0) l))))

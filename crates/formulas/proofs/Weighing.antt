@@ -1,65 +1,57 @@
--- A row of a well-formed problem times a monomial v that stands in a list: the products that the code adds, the sizes of the sum and of the weight.
-use mathlib.Core.Path.{◌≡◌, ap, fun_ext}
+-- A row of a well-formed problem times a monomial: the sum that the code adds up, its size and that of the weight.
+use mathlib.Core.Path.{◌≡◌, ap, ◌∙◌}
 use mathlib.Core.Logic.{◌≢◌}
 use mathlib.Core.List.{List}
 use mathlib.Core.Bool.{Bool}
-use Prim.Native.Nat.{ℕ, suc, ◌+◌, ◌*◌, ◌<◌, ◌≤◌}
-use native.Mathlib.Nat.{zero-add, mul-le-mul}
+use Prim.Native.Nat.{ℕ, suc, ◌+◌, ◌-◌, ◌*◌, ◌<◌, ◌≤◌}
+use native.Mathlib.Nat.{mul-le-mul}
 use native.Mathlib.Omega.{arith}
+use lib.ListN.{length, take, drop, length-drop}
+use lib.Seq.{length-take-le, get_or-drop}
+use Rattle.std.proofs.lemmas.List.{get_or-take}
 use lib.IntN.{ℤ, pos, nat_abs, ◌*ℤ◌}
-use mir.Syntax.{w32, w64}
-use mir.Val.{SFits, to_z, of_z, Fits}
-use mir.Facts.{to_z-of_z}
 use Rattle.whole.specs.Lists.{nth}
 use Rattle.whole.specs.Sum.{sum}
+use Rattle.whole.proofs.Sum.{sum_cong}
 use Rattle.whole.proofs.Tests.{Test, pass, fail}
-use Rattle.whole.proofs.Order.{fits}
 use Rattle.whole.proofs.Division.{rem-le}
-use Rattle.rules.specs.Problem.{Problem, modulus}
+use Rattle.rules.specs.Problem.{Problem, modulus, WellFormed}
 use Rattle.rules.specs.Formulas.{row_times, weight}
 use Rattle.theory.proofs.Weights.{weight_without, weight_with}
 use Rattle.theory.proofs.Limits.{is_zero?}
 use Rattle.theory.proofs.Sizes as sizes
-use Rattle.formulas.specs.Terms.{from, TermOf, Products, most_row_times, Weight}
-use Rattle.checks.proofs.Values.{fits32}
+use Rattle.formulas.specs.Terms.{Monomial, dot_of, most_row_times, Weight}
 
--- the exponents from the front on
-pub from_front : (es : List ℤ) → from es 0 ≡ nth es
-from_front es = fun_ext (λ j. ap (nth es) (zero-add j))
+-- count numbers of a list, from an index on
+pub length-part : (xs : List ℤ) (at count : ℕ) → at + count ≤ length xs → length (take count (drop at xs)) ≡ count
+length-part xs at count h = length-take-le count (drop at xs) (omega (arith, length-drop at xs))
 
-module _ {P : Problem} {es : List ℤ} {start : ℕ} (E : TermOf P es start) (i : ℕ) (within : i < P.m) where
-  abbrev v : ℕ → ℤ
-  v = from es start
+pub nth-part : (xs : List ℤ) (at count j : ℕ) → j < count → nth (take count (drop at xs)) j ≡ nth xs (at + j)
+nth-part xs at count j l = get_or-take count (drop at xs) j (pos 0) l ∙ get_or-drop at xs j (pos 0)
 
-  pub place-fits : Fits w64 (i * P.n)
-  place-fits = let F = E.well_formed in omega (arith, mul-le-mul within F.n-high, F.m-high)
+-- the sum of a row's products
+pub dot-row : (xs es : List ℤ) (at n : ℕ) → at + n ≤ length xs → dot_of (take n (drop at xs)) es ≡ sum n (λ j. nth xs (at + j) *ℤ nth es j)
+dot-row xs es at n h =
+    ap (λ k. sum k (λ j. nth (take n (drop at xs)) j *ℤ nth es j)) (length-part xs at n h)
+    ∙ sum_cong n (λ j. nth (take n (drop at xs)) j *ℤ nth es j) (λ j. nth xs (at + j) *ℤ nth es j) (λ j l. ap (λ z. z *ℤ nth es j) (nth-part xs at n j l))
 
-  pub row_products : Products P.matrix (i * P.n) es start P.n
-  row_products = let F = E.well_formed in record {
-    few = F.n-high;
-    a_in = let l : suc i * P.n ≤ P.m * P.n = mul-le-mul within (omega arith) in omega (arith, F.matrix);
-    b_in = E.monomial.fits;
-    a_small = F.entries;
-    b-small = E.monomial.small;
-  }
-
-  pub row_size : nat_abs (row_times P v i) ≤ most_row_times
-  row_size = sizes.row_size P E.well_formed v (λ j _. E.monomial.small (start + j)) i
-
-  -- what `dot` adds up, read back
-  pub row_read : (r : ℤ) → r ≡ sum P.n (λ j. nth P.matrix (i * P.n + j) *ℤ nth es (start + j)) → to_z w64 (of_z w64 r) ≡ row_times P v i
+module _ {P : Problem} (F : WellFormed P) {es : List ℤ} (E : Monomial P.n es) (i : ℕ) where
+  pub row_is : i < P.m → dot_of (take ((i + 1) * P.n - i * P.n) (drop (i * P.n) P.matrix)) es ≡ row_times P (nth es) i
   unfolding row_times
-  row_read r e = rw e (to_z-of_z (fits w64 (row_times P v i) (omega (arith, row_size))))
+  row_is within =
+      let e : (i + 1) * P.n - i * P.n ≡ P.n = omega arith in
+      let l : suc i * P.n ≤ P.m * P.n = mul-le-mul within (omega arith) in
+      rw e (dot-row P.matrix es (i * P.n) P.n (omega (arith, F.matrix)))
 
-  pub modulus-fits : SFits w32 (modulus P i)
-  modulus-fits = fits32 (modulus P i) (omega (arith, E.well_formed.moduli-high i))
+  pub row_size : nat_abs (row_times P (nth es) i) ≤ most_row_times
+  row_size = sizes.row_size P F (nth es) (λ j _. E.small j) i
 
-  weight_size : nat_abs (weight P v i) ≤ most_row_times
+  pub weight_size : nat_abs (weight P (nth es) i) ≤ most_row_times
   weight_size = go (is_zero? (modulus P i))
     where
-      go : {b : Bool} → Test (modulus P i ≡ pos 0) (modulus P i ≢ pos 0) b → nat_abs (weight P v i) ≤ most_row_times
-      go (pass e) = rw (weight_without P v i e) row_size
-      go (fail d) = rw (weight_with P v i d) (omega (arith, row_size, rem-le (row_times P v i) (modulus P i)))
+      go : {b : Bool} → Test (modulus P i ≡ pos 0) (modulus P i ≢ pos 0) b → nat_abs (weight P (nth es) i) ≤ most_row_times
+      go (pass e) = rw (weight_without P (nth es) i e) row_size
+      go (fail d) = rw (weight_with P (nth es) i d) (omega (arith, row_size, rem-le (row_times P (nth es) i) (modulus P i)))
 
-  pub is_weight : (r : ℤ) → r ≡ weight P v i → Weight P v i r
+  pub is_weight : (r : ℤ) → r ≡ weight P (nth es) i → Weight P (nth es) i r
   is_weight r e = record { is = e; small = rw e weight_size }

@@ -1,20 +1,18 @@
 -- What `weigh` and `translate` answer and leave in the lent outputs, held to what rules/specs/Calls says of them; and what is known between the
 -- checks and the answer.
-use Rattle.std.specs.Prelude.{◌≡◌, false, cond, List, [], ◌∷◌, ℕ, ◌+◌, ◌-◌, ◌*◌, ◌<◌, ◌≤◌, length, ℤ}
+use Rattle.std.specs.Prelude.{◌≡◌, false, cond, List, [], ◌∷◌, ℕ, ◌+◌, ◌-◌, ◌*◌, ◌<◌, ◌≤◌, length, ℤ, Result, Ok, Err}
 use Rattle.whole.specs.Lists.{nth}
 use Rattle.rules.specs.Limits.{room_w, room_coefficients, room_exponents}
-use Rattle.rules.specs.Problem.{Problem, N, WellFormed}
+use Rattle.rules.specs.Problem.{Problem, N}
 use Rattle.rules.specs.Stages.{run, W}
-use Rattle.rules.specs.Formulas.{Formula, terms, term, WellFormedFormula}
-use Rattle.rules.specs.Calls.{Verdict, verdict, term_refused, term_number, terms_check, filled, weights, translated_exponents}
+use Rattle.rules.specs.Formulas.{Formula, terms, term}
+use Rattle.rules.specs.Calls.{Verdict, taken, refused, verdict, term_refused, term_number, terms_check, filled, translated_exponents}
 use Rattle.rules.specs.Calls.{Weighed, Translated, translated_to, translate_of}
-use Rattle.checks.specs.declared.ModulusRows.{ModulusRows}
 use Rattle.checks.specs.declared.Refusal.{Refusal}
-use Rattle.checks.specs.Checks.{Says, given}
-use Rattle.checks.specs.Moduli.{lent_problem, Lists}
+use Rattle.checks.specs.Refusals.{number_of, place_of}
+use Rattle.checks.specs.Checks.{given}
 use Rattle.formulas.specs.declared.WeighAnswer.{WeighAnswer}
 use Rattle.formulas.specs.declared.TranslateAnswer.{TranslateAnswer}
-use Rattle.scaling.specs.WorkState.{Small}
 
 -- ---- weigh
 pub record Weighs (b : Weighed) (r : WeighAnswer) (out₁ : List ℤ) : Type 0 where
@@ -22,9 +20,10 @@ pub record Weighs (b : Weighed) (r : WeighAnswer) (out₁ : List ℤ) : Type 0 w
   pub place : r.place ≡ b.answer.place
   pub weights : out₁ ≡ b.weights
 
--- a lent output with the weights written into it
-abbrev pub weights_into : Problem → (exponents out : List ℤ) → List ℤ
-weights_into P es out = filled (weights P (nth es)) out
+-- the plain numbers of a result
+abbrev pub weigh_answer : Result (Unit {0}) Refusal → WeighAnswer
+weigh_answer (Ok x) = record { number = 0; place = 0 }
+weigh_answer (Err r) = record { number = number_of r; place = place_of r }
 
 -- ---- translate
 -- of numbers, or of bytes where the call lends bytes
@@ -34,6 +33,11 @@ pub record Translates {A : Type 0} (b : Translated A) (r : TranslateAnswer) (kep
   pub d : r.d ≡ b.answer.d
   pub kept : kept₁ ≡ b.coefficients
   pub translated : translated₁ ≡ b.exponents
+
+-- the plain numbers of a result
+abbrev pub translate_answer : Result ℕ Refusal → TranslateAnswer
+translate_answer (Ok d) = record { number = 0; place = 0; d = d }
+translate_answer (Err r) = record { number = number_of r; place = place_of r; d = 0 }
 
 -- the formula of two lent lists
 abbrev pub lent_formula : (coefficients exponents : List ℤ) → Formula
@@ -49,39 +53,22 @@ pub record RoomToTranslate (kept₀ translated₀ : List ℤ) : Type 0 where
   pub kept : room_coefficients ≤ length kept₀
   pub translated : room_exponents ≤ length translated₀
 
--- a well-formed formula, and room for what it becomes
-pub record FormulaWithRoom (P : Problem) (f : Formula) (kept₀ translated₀ : List ℤ) : Type 0 where
-  pub well_formed : WellFormedFormula P f
-  pub room : RoomToTranslate kept₀ translated₀
-
--- w and r are W and the rank of the problem's run, none of whose steps was beyond M
+-- w and r are W and the rank of the problem's run
 pub record Solved (P : Problem) (w : List ℤ) (r : ℕ) : Type 0 where
-  pub taken : (run P).state.over ≡ false
   pub rank : r ≡ (run P).rank
   pub upto : r ≤ N P
   pub groups : N P - r ≤ P.n
   pub length : length w ≡ room_w
-  pub small : Small w
   pub entries : (i c : ℕ) → i < N P → c < N P → nth w (i * N P + c) ≡ W (run P) i c
 
--- a well-formed problem with its rows that have a modulus, its W and its rank
-pub record Prepared (P : Problem) (q : ModulusRows) (w : List ℤ) (r : ℕ) : Type 0 where
-  pub well_formed : WellFormed P
-  pub lists : Lists P q
-  pub solved : Solved P w r
-
 -- ---- checks 8 and 9
--- 0 for a term that is taken, else 8 or 9
-abbrev pub judged : Problem → (v : ℕ → ℤ) → ℕ
-judged P v = cond (term_refused P (run P) v) (term_number P v) 0
+-- of the exponents v of term t
+abbrev pub judged : Problem → (v : ℕ → ℤ) → (t : ℕ) → Verdict
+judged P v t = cond (term_refused P (run P) v) (refused (term_number P v) t) taken
 
 -- of all terms: the first that is refused decides
 abbrev pub terms_verdict : Problem → Formula → Verdict
 terms_verdict P f = verdict (terms_check P (run P) f ∷ [])
-
--- an answer says that verdict
-pub record Tells8And9 (P : Problem) (f : Formula) (r : Refusal) : Type 0 where
-  pub says : Says r.number r.place (terms_verdict P f)
 
 -- every term is taken
 pub record AllTaken (P : Problem) (f : Formula) : Type 0 where
@@ -92,9 +79,6 @@ pub record AllTaken (P : Problem) (f : Formula) : Type 0 where
 abbrev pub exponents_into : Problem → Formula → (translated : List ℤ) → List ℤ
 exponents_into P f ts = filled (translated_exponents P f) ts
 
--- the answer and the outputs, as 8 and 9 decide; and the same of the lent lists
+-- the answer and the outputs, as 8 and 9 decide
 abbrev pub translated_by : Problem → Formula → (kept translated : List ℤ) → Translated ℤ
 translated_by P f ks ts = translated_to P f ks ts (terms_verdict P f)
-
-abbrev pub checked_translation : (n : ℕ) (matrix moduli coefficients exponents kept translated : List ℤ) → Translated ℤ
-checked_translation n matrix moduli cs es ks ts = translated_by (lent_problem n matrix moduli) (lent_formula cs es) ks ts

@@ -1,27 +1,45 @@
-use Rattle.std.proofs.Common.{◌+◌, ◌*ℤ◌, suc, arith}
-use Rattle.std.proofs.lemmas.Int.{to_z-of_z}
-use mir.Syntax.{w32, w64}
-use mir.Val.{SFits, to_z}
-use borrow.Author.Rules.{rules}
+use Rattle.std.proofs.Common.{rules, ◌≡◌, ◌<◌, ◌*ℤ◌, length, ap, ◌∙◌, pos, length-append, w32, w64}
+use Rattle.std.proofs.lemmas.Slice.Zip.{zip_turn}
+use mir.Val.{SFits}
+use mir.Facts.{to_z-of_z}
 use Rattle.whole.specs.Lists.{nth}
-use Rattle.formulas.proofs.Sums.{sum-none, sum_fits, sum_more, dot_small}
+use Rattle.formulas.proofs.Sums.{begun-none, product-fits, sum-fits, sum-more}
 use Rattle.formulas.proofs.terms.dot.Goals as goal
+use Rattle.formulas.proofs.terms.dot.Goals.{After-from}
 
-pub loop-j-init : goal.loop-j-init
-loop-j-init c = (omega arith, sum-none _)
+-- the numbers of this turn, by their index
+turn : (c : After-from) → SFits w32 c.in-Some.x.now → (length c.loop-x.yielded < length c.args.a.now)
+    × (c.from.result ≡ nth c.args.a.now (length c.loop-x.yielded)) × (c.in-Some.y.now ≡ nth c.args.b.now (length c.loop-x.yielded)) × SFits w32 c.from.result
+turn c x =
+    let t = zip_turn c.args.a.now c.args.b.now c.loop-x.yielded c.into_iter-x-iterator.result c.loop-x.x-iterator c.next.new.self c.next.result
+    (ap (λ z. z.a.rest.now) c.into_iter-x-iterator.ensures.into_iter_gives ∙ ap (λ i. i.rest.now) c.zip-x-items.ensures.first ∙ c.iter.ensures.rest)
+    (ap (λ z. z.b.rest.now) c.into_iter-x-iterator.ensures.into_iter_gives ∙ c.zip-x-items.ensures.second.0)
+    c.loop-x.yielded_by (c.in-Some.x, c.in-Some.y) c.in-Some.is c.next.ensures.steps in
+    let same : c.from.result ≡ c.in-Some.x.now = c.from.ensures ∙ to_z-of_z x in
+    (t.0, same ∙ t.2 (pos 0), t.3 (pos 0), rw same x)
+
+pub loop-x-init : goal.loop-x-init
+loop-x-init c = begun-none _ _
+
+pub overflow_mul-sum : goal.overflow_mul-sum
+overflow_mul-sum c =
+    let t = turn (goal.at.overflow_mul-sum c).After-from (search rules) in
+    let x : SFits w64 c.from.result = search rules in
+    let y : SFits w64 c.in-Some.y.now = search rules in
+    simp to_z-of_z (product-fits c.requires c.loop-x.invariant t.0 t.1 t.2 t.3)
 
 pub overflow_add-sum : goal.overflow_add-sum
 overflow_add-sum c =
-    let a : SFits w32 (nth c.args.a.now (c.args.at + c.loop-j.j)) = search rules in
-    let b : SFits w32 (nth c.args.b.now (c.args.start + c.loop-j.j)) = search rules in
-    sum_fits (λ k. nth c.args.a.now (c.args.at + k) *ℤ nth c.args.b.now (c.args.start + k)) c.loop-j.j (to_z w64 c.loop-j.sum-bits) c.product-sum.result
-    c.loop-j.invariant.1 (simp to_z-of_z at c.product-sum.ensures) (search rules) (omega (arith, dot_small c.requires (suc c.loop-j.j) (omega arith)))
+    let t = turn (goal.at.overflow_add-sum c).After-from (search rules) in
+    let x : SFits w64 c.from.result = search rules in
+    let y : SFits w64 c.in-Some.y.now = search rules in
+    let product : SFits w64 (c.from.result *ℤ c.in-Some.y.now) = product-fits c.requires c.loop-x.invariant t.0 t.1 t.2 t.3 in
+    simp to_z-of_z (sum-fits c.requires c.loop-x.invariant t.0 t.1 t.2 t.3)
 
-pub loop-j-preserved : goal.loop-j-preserved
-loop-j-preserved c =
-    let a : SFits w32 (nth c.args.a.now (c.args.at + c.loop-j.j)) = search rules in
-    let b : SFits w32 (nth c.args.b.now (c.args.start + c.loop-j.j)) = search rules in (
-      omega arith,
-      sum_more (λ k. nth c.args.a.now (c.args.at + k) *ℤ nth c.args.b.now (c.args.start + k)) c.loop-j.j (to_z w64 c.loop-j.sum-bits) c.product-sum.result
-          c.loop-j.invariant.1 (simp to_z-of_z at c.product-sum.ensures) (search rules) (omega (arith, dot_small c.requires (suc c.loop-j.j) (omega arith))),
-    )
+pub loop-x-preserved : goal.loop-x-preserved
+loop-x-preserved c =
+    let t = turn (goal.at.loop-x-preserved c).After-from (search rules) in
+    let x : SFits w64 c.from.result = search rules in
+    let y : SFits w64 c.in-Some.y.now = search rules in
+    let product : SFits w64 (c.from.result *ℤ c.in-Some.y.now) = product-fits c.requires c.loop-x.invariant t.0 t.1 t.2 t.3 in
+    simp (length-append, to_z-of_z) (sum-more c.requires c.loop-x.invariant t.0 t.1 t.2 t.3)

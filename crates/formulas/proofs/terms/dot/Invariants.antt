@@ -1,11 +1,7 @@
-use Rattle.std.proofs.Common.{◌≡◌, ◌≤◌, ◌+◌, ◌-◌, ◌*ℤ◌}
-use Rattle.whole.specs.Lists.{nth}
-use Rattle.whole.specs.Sum.{sum}
+use Rattle.std.proofs.Common.{length}
+use Rattle.formulas.proofs.Sums.{Begun}
 use Rattle.formulas.proofs.terms.dot.Given as goal
 
--- the sum is that of the first j products
-abbrev pub invariant-loop-j : goal.invariant-loop-j
-invariant-loop-j l = (l.j ≤ l.count) × (l.sum ≡ sum l.j (λ k. nth l.a (l.at + k) *ℤ nth l.b (l.start + k)))
-
-abbrev pub decreases-loop-j : goal.decreases-loop-j
-decreases-loop-j l = l.count - l.j
+-- the sum of the products so far
+abbrev pub invariant-loop-x : goal.invariant-loop-x
+invariant-loop-x l = Begun l.a l.b (length l.yielded) l.sum
