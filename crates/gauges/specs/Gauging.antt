@@ -1,14 +1,20 @@
 -- How the code holds readings, exponents and answers.
-use Rattle.std.specs.Prelude.{◌≡◌, Bool, List, ℕ, ◌+◌, ◌*◌, ◌<◌, ◌≤◌, length, ℤ, Float}
+use Rattle.std.specs.Prelude.{◌≡◌, List, ℕ, ◌+◌, ◌*◌, ◌<◌, ◌≤◌, length, ℤ, Float, fold, Result, Ok, Err}
+use Rattle.std.specs.List.{zip}
+use Rattle.std.specs.Float.{binary64}
+use Rattle.std.specs.Float.Ieee.{of_bits}
 use Rattle.whole.specs.Lists.{nth}
 use Rattle.scaling.specs.Strided.{Within}
-use Rattle.rules.specs.Search.{none, found, first}
+use Rattle.rules.specs.Search.{first}
 use Rattle.rules.specs.Calls.{verdict}
+use Rattle.checks.specs.Refusals.{number_of, place_of}
 use Rattle.rules.specs.Gauges as rules
-use Rattle.rules.specs.Gauges.{own_checks, value, refusal, gauged_by}
+use Rattle.rules.specs.Gauges.{units, after, operate, own_checks, nought, value, refusal, gauged_by}
 use Rattle.gauges.specs.declared.Readings as readings
 use Rattle.gauges.specs.declared.Gauged as declared
 use Rattle.gauges.specs.declared.Gauged.TheVariants.{Value, Refused}
+use Rattle.gauges.specs.declared.Fault.{Fault}
+use Rattle.gauges.specs.declared.Fault.TheVariants.{Problem, Reading, NoGroup, Exponent, Range}
 
 -- ---- the readings
 abbrev pub set_of : readings.Readings → rules.Readings
@@ -31,13 +37,27 @@ pub record Table (n groups : ℕ) (es : List ℤ) (first stride : ℕ) : Type 0 
 abbrev pub evaluate_of : (n d : ℕ) (exponents : ℕ → ℤ) (readings : ℕ → Float) (group : ℕ) → rules.Gauged
 evaluate_of n d v x g = gauged_by n v x (verdict (own_checks n d v x g))
 
--- ---- a search: r is the first index below n where a test holds; n where it holds nowhere
-pub record FirstOf (test : ℕ → Bool) (n r : ℕ) : Type 0 where
-  pub upto : r ≤ n
-  pub hit : r < n → first test 0 n ≡ found r
-  pub miss : r ≡ n → first test 0 n ≡ none
+-- ---- what readings come to with as many exponents, both in lists, from 1.0 on as the code has it
+abbrev pub value_by : (readings : List Float) (exponents : List ℤ) → Float
+value_by xs es = fold (λ r p. after (operate (λ j. p.0)) r (units 0 p.1)) (of_bits binary64 0x3ff0_0000_0000_0000) (zip xs es)
+
+-- ---- n exponents, one for each quantity
+pub record Exponents (n : ℕ) (exponents : ℕ → ℤ) (es : List ℤ) : Type 0 where
+  pub count : length es ≡ n
+  pub each : (j : ℕ) → j < n → nth es j ≡ exponents j
 
 -- ---- what each case of the answer says
 abbrev pub told : declared.Gauged → rules.Gauged
 told (Value x) = value x
 told (Refused number place x) = refusal number place x
+
+abbrev pub refusal_of : Fault → rules.Gauged
+refusal_of (Problem r) = refusal (number_of r) (place_of r) nought
+refusal_of (Reading place x) = refusal 11 place x
+refusal_of (NoGroup g) = refusal 24 g nought
+refusal_of (Exponent g) = refusal 12 g nought
+refusal_of (Range g) = refusal 13 g nought
+
+abbrev pub told_of : Result Float Fault → rules.Gauged
+told_of (Ok x) = value x
+told_of (Err f) = refusal_of f

@@ -1,3 +1,3 @@
 -- What the contracts of this crate's functions cite, beside the definitions of rules/specs/Gauges.
---     Gauging   readings, exponents in a flat list, what `evaluate` answers, a search, what each case of the answer says: `gauge`, `evaluate`, `values`
+--     Gauging   readings, exponents in a flat list and one by one, what `evaluate` answers, what each case of an answer says: `gauge`, `evaluate`, `Groups`, `product`
 pub mod Gauging

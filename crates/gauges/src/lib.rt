@@ -1,23 +1,26 @@
 // One group of a problem, worked out from gauge readings (order 2).
 #![tactic(auto)]
 
-ghost use Rattle.std.specs.Prelude.{◌≡◌, ◌≤◌};
-ghost use Rattle.rules.specs.Gauges.{read, nought, refusal, gauge_of};
+ghost use Rattle.std.specs.Prelude.{◌≡◌, length};
+ghost use Rattle.rules.specs.Gauges.{read, gauge_of};
 ghost use Rattle.checks.specs.Checks.{given};
-ghost use Rattle.gauges.specs.Gauging.{column, Table, evaluate_of, told, set_of};
+ghost use Rattle.gauges.specs.declared.Fault.TheVariants.{Problem};
+ghost use Rattle.gauges.specs.Gauging.{column, evaluate_of, told, told_of, refusal_of, set_of};
 
+mod groups;
 mod values;
 
-use checks::{ROOM_H, ROOM_V, ROOM_W};
+use checks::{ROOM_H, ROOM_V, ROOM_W, Refusal};
+use groups::Groups;
 
-// A set of readings: up to sixteen values, and how many there are.
+// A set of readings: up to sixteen values, and how many there are. R13.6 of docs/RULES.md gives it this form.
 #[derive(Clone, Copy)]
 pub struct Readings {
     pub values: [f64; 16],
     pub count: u32,
 }
 
-// The answer for one group: its value, or a refusal's number and place with the reading that it carries.
+// The answer for one group: its value, or a refusal's number and place with the reading that it carries. R13.8 gives it this form.
 #[derive(Clone, Copy)]
 pub enum Gauged {
     Value(f64),
@@ -28,53 +31,103 @@ pub enum Gauged {
     },
 }
 
-// A refusal that carries 0.0.
-fn refused(number: u32, place: u32) -> Gauged
-    ensures { told result ≡ refusal number place nought }
-{
-    Gauged::Refused {
-        number: number,
-        place: place,
-        reading: 0.0,
+// Why a group has no value: a refusal of the problem or of the count, and the four that are this call's own.
+#[derive(Clone, Copy)]
+enum Fault {
+    Problem(Refusal),
+    Reading { place: u32, reading: f64 },
+    NoGroup(u32),
+    Exponent(u32),
+    Range(u32),
+}
+
+impl From<Refusal> for Fault {
+    ghost from_gives = { λ refusal fault. fault ≡ Problem refusal };
+
+    fn from(refusal: Refusal) -> Fault {
+        Fault::Problem(refusal)
     }
 }
 
-// Checks 11, 24, 12 and 13, and the value. The exponent of quantity j in group g stands in `v` at first + g + j * cols.
-fn evaluate(
-    readings: Readings,
-    n: usize,
-    v: &[i32],
-    first: usize,
-    cols: usize,
-    groups: u32,
-    group: u32,
-) -> Gauged
-    requires n_bound { n ≤ 16 }
-    requires table { Table n groups v.now first cols }
-    ensures { told result ≡ evaluate_of n groups (column v.now first cols group) (read readings.values) group }
-{
-    let values = readings.values;
-    let k = values::first_bad(values, n);
-    if k < n {
-        let x = values[k];
-        return Gauged::Refused {
-            number: 11,
-            place: k as u32,
-            reading: x,
+// A refusal carries 0.0, but for that of a reading.
+impl From<Fault> for Gauged {
+    ghost from_gives = { λ fault gauged. told gauged ≡ refusal_of fault };
+
+    fn from(fault: Fault) -> Gauged {
+        let (number, place, reading) = match fault {
+            Fault::Problem(refusal) => (refusal.number(), refusal.place(), 0.0),
+            Fault::Reading { place, reading } => (11, place, reading),
+            Fault::NoGroup(group) => (24, group, 0.0),
+            Fault::Exponent(group) => (12, group, 0.0),
+            Fault::Range(group) => (13, group, 0.0),
         };
+        Gauged::Refused {
+            number,
+            place,
+            reading,
+        }
     }
-    if groups <= group {
-        return refused(24, group);
+}
+
+// Checks 11, 24, 12 and 13, and the value.
+fn evaluate(groups: &Groups, readings: &[f64], group: u32) -> Result<f64, Fault>
+    requires { length readings.now ≡ groups.now.n }
+    ensures { told_of result ≡ evaluate_of groups.now.n groups.now.count
+        (column groups.now.v.now groups.now.first groups.now.cols group) (read readings.now) group }
+{
+    if let Some(k) = values::first_bad(readings) {
+        return Err(Fault::Reading {
+            place: k as u32,
+            reading: readings[k],
+        });
     }
-    let at = first + group as usize;
-    if values::first_large(v, at, cols, n) < n {
-        return refused(12, group);
+    let Some(exponents) = groups.exponents(group) else {
+        return Err(Fault::NoGroup(group));
+    };
+    if !values::all_in_range(&exponents) {
+        return Err(Fault::Exponent(group));
     }
-    let x = values::product(values, v, at, cols, n);
-    if values::is_out(x) {
-        return refused(13, group);
+    let value = values::product(readings, &exponents);
+    if values::is_out(value) {
+        return Err(Fault::Range(group));
     }
-    Gauged::Value(x)
+    Ok(value)
+}
+
+// What `gauge` answers.
+fn work_out(
+    m: u32,
+    n: u32,
+    matrix: &[i32],
+    moduli: &[i32],
+    readings: Readings,
+    group: u32,
+) -> Result<f64, Fault>
+    ensures { told_of result ≡ gauge_of (given m n matrix.now moduli.now) (set_of readings) group }
+{
+    if !checks::sizes_in_range(m, n) {
+        return Err(Fault::Problem(Refusal::Sizes));
+    }
+    if readings.count != n {
+        return Err(Fault::Problem(Refusal::Lengths));
+    }
+    let mut h = [0; ROOM_H];
+    let mut v = [0; ROOM_V];
+    let mut w = [0; ROOM_W];
+    let built = scaling::build(m, n, matrix, moduli, &mut h, &mut v, &mut w)?;
+    let n = n as usize;
+    let rank = built.rank as usize;
+    let moduli = built.moduli as usize;
+    let cols = n + moduli;
+    // Row `moduli` of V is that of quantity 0; the columns from `rank` on are the groups.
+    let groups = Groups {
+        n,
+        v: &v,
+        first: moduli * cols + rank,
+        cols,
+        count: (cols - rank) as u32,
+    };
+    evaluate(&groups, &readings.values[..n], group)
 }
 
 // The value of group `group`, counted from 0. A refusal of the sizes comes before one of the count, and that before any other.
@@ -88,30 +141,8 @@ pub fn gauge(
 ) -> Gauged
     ensures { told result ≡ gauge_of (given m n matrix.now moduli.now) (set_of readings) group }
 {
-    let mut h: [i32; ROOM_H] = [0; ROOM_H];
-    let mut v: [i32; ROOM_V] = [0; ROOM_V];
-    let mut w: [i32; ROOM_W] = [0; ROOM_W];
-    let b = scaling::build(m, n, matrix, moduli, &mut h, &mut v, &mut w);
-    let number = b.number;
-    if number == 1 {
-        return refused(1, b.place);
+    match work_out(m, n, matrix, moduli, readings, group) {
+        Ok(value) => Gauged::Value(value),
+        Err(fault) => fault.into(),
     }
-    let count = readings.count;
-    if count != n {
-        return refused(2, 0);
-    }
-    if number != 0 {
-        return refused(number, b.place);
-    }
-    let cols = n as usize + b.moduli as usize;
-    let rank = b.rank as usize;
-    evaluate(
-        readings,
-        n as usize,
-        &v,
-        b.moduli as usize * cols + rank,
-        cols,
-        (cols - rank) as u32,
-        group,
-    )
 }

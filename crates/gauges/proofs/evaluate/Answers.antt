@@ -1,22 +1,32 @@
-use Rattle.std.proofs.Common.{arith, sym, ◌∙◌}
-use Rattle.rules.specs.Gauges.{read}
-use Rattle.gauges.specs.Gauging.{column}
-use Rattle.gauges.proofs.Checked.{out_of_range, in_range}
+use Rattle.std.proofs.Common.{sym, ap, ◌∙◌}
+use Rattle.std.specs.List.{list_all}
+use Rattle.rules.specs.Limits.{power_in_range}
+use Rattle.gauges.specs.Gauging.{value_by}
+use Rattle.gauges.proofs.Checked.{bad-reading, no_group, large_power, out_of_range, in_range}
 use Rattle.gauges.proofs.evaluate.Goals as goal
+
+pub returns-in-Some : goal.returns-in-Some
+returns-in-Some c =
+    sym (bad-reading c.args.groups.now c.args.group c.args.readings.now c.requires c.in-Some.k c.in-Some.ensures)
+
+pub returns-in_default-exponents : goal.returns-in_default-exponents
+returns-in_default-exponents c =
+    sym (no_group c.args.groups.now c.args.group c.args.readings.now c.requires c.in_default.ensures c.in_default-exponents.ensures.no_group)
+
+pub returns-then-not-all_in_range : goal.returns-then-not-all_in_range
+returns-then-not-all_in_range c =
+    let e = c.in-Some-exponents.ensures in
+    sym (large_power c.args.groups.now c.args.group c.args.readings.now c.requires c.in_default.ensures e.there _ e.found
+    (c.if-not-all_in_range.ensures ∙ ap (list_all power_in_range) c.deref.ensures.0))
 
 pub returns-then-is_out : goal.returns-then-is_out
 returns-then-is_out c =
-    let v = column c.args.v.now c.args.first c.args.cols c.args.group in
-    let good = c.first_bad-k.ensures.miss (omega (arith, c.first_bad-k.ensures.upto)) in
-    let small = c.first_large.ensures.miss (omega (arith, c.first_large.ensures.upto)) in
-    c.refused-then-is_out.ensures
-    ∙ sym (out_of_range c.args.n c.args.groups c.args.group v (read c.args.readings.values) good c.if-groups-group.false small _ c.product-x.ensures
-    (sym c.is_out.ensures ∙ c.if-is_out.true))
+    let e = c.in-Some-exponents.ensures in
+    sym (out_of_range c.args.groups.now c.args.group c.args.readings.now c.requires c.in_default.ensures e.there _ e.found
+    (c.if-not-all_in_range.ensures ∙ ap (list_all power_in_range) c.deref.ensures.0) _ (c.product-value.ensures ∙ ap (value_by c.args.readings.now) c.deref-2.ensures.0) c.if-is_out.ensures)
 
 pub returns : goal.returns
 returns c =
-    let v = column c.args.v.now c.args.first c.args.cols c.args.group in
-    let good = c.first_bad-k.ensures.miss (omega (arith, c.first_bad-k.ensures.upto)) in
-    let small = c.first_large.ensures.miss (omega (arith, c.first_large.ensures.upto)) in
-    sym (in_range c.args.n c.args.groups c.args.group v (read c.args.readings.values) good c.if-groups-group.false small _ c.product-x.ensures
-    (sym c.is_out.ensures ∙ c.if-is_out.false))
+    let e = c.in-Some-exponents.ensures in
+    sym (in_range c.args.groups.now c.args.group c.args.readings.now c.requires c.in_default.ensures e.there _ e.found
+    (c.if-not-all_in_range.ensures ∙ ap (list_all power_in_range) c.deref.ensures.0) _ (c.product-value.ensures ∙ ap (value_by c.args.readings.now) c.deref-2.ensures.0) c.if-is_out.ensures)
