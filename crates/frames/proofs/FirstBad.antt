@@ -1,4 +1,4 @@
--- One step of the definitions' search for the first line that is bad or missing, over the text from a place on.
+-- One step of the definitions' search for the first line that is bad or missing.
 -- Assumes nothing.
 use mathlib.Core.Path.{◌≡◌, refl}
 use mathlib.Core.Bool.{Bool, true, false}
@@ -6,29 +6,30 @@ use mathlib.Core.List.{List, [], ◌∷◌}
 use Prim.Native.Nat.{ℕ, zero, suc, ◌+◌, ◌*◌, ◌<◌}
 use native.Mathlib.Omega.{arith}
 use lib.Dec.{eqb}
-use lib.ListN.{length, drop}
+use lib.ListN.{length}
 use Rattle.rules.specs.Search.{found}
-use Rattle.rules.specs.Frames.{newline, TextLine, whole, torn, before, lines_of, first_bad}
-use Rattle.frames.specs.Line.{starts_frame}
-use Rattle.frames.proofs.Lines.{first_is, bad-line, good-line}
+use Rattle.rules.specs.Frames.{newline, TextLine, whole, torn, before, lines_of, is_row, is_term, first_bad}
+use Rattle.frames.specs.Line.{first_is}
 
--- ---- matrix lines
-pub row-passes : (n rows terms place : ℕ) (s : List ℕ) (p : ℕ) → starts_frame 2 (6 + 4 * n) (drop p s) ≡ true
-    → first_bad n (suc rows) terms place (lines_of (drop p s)) ≡ first_bad n rows terms (suc place) (lines_of (drop (p + (7 + 4 * n)) s))
-unfolding first_bad
-row-passes n rows terms place s p g =
-    let next = good-line 2 (1 + 2 + 2 * n) (6 + 4 * n) (7 + 4 * n) (omega arith) (omega arith) (omega arith) s p g in
-    rw (next.1, first_bad, next.0)
+module _ (n terms place : ℕ) where
+  -- ---- matrix lines
+  pub row-passes : (rows : ℕ) {ls next : List TextLine} {l : TextLine} → ls ≡ l ∷ next → is_row n l ≡ true
+      → first_bad n (suc rows) terms place ls ≡ first_bad n rows terms (suc place) next
+  unfolding first_bad
+  row-passes rows e h = rw (e, first_bad, h)
 
-pub row-stops : (n rows terms place : ℕ) (t : List ℕ) → starts_frame 2 (6 + 4 * n) t ≡ false → first_bad n (suc rows) terms place (lines_of t) ≡ found place
-unfolding first_bad first_is
-row-stops n rows terms place t g = go (lines_of t) (bad-line 2 (1 + 2 + 2 * n) (6 + 4 * n) (omega arith) (omega arith) t g)
-  where
-    go : (ls : List TextLine) → first_is 2 (1 + 2 + 2 * n) ls ≡ false → first_bad n (suc rows) terms place ls ≡ found place
-    go [] h = refl
-    go (l ∷ ls) h = rw (h, first_bad)
+  pub row-stops : (rows : ℕ) (ls : List TextLine) → first_is 2 (3 + 2 * n) ls ≡ false
+      → first_bad n (suc rows) terms place ls ≡ found place
+  unfolding first_bad first_is
+  row-stops rows [] h = refl
+  row-stops rows (l ∷ ls) h = rw (h, first_bad)
 
--- ---- term lines
+  -- ---- term lines
+  pub term-passes : {ls next : List TextLine} {l : TextLine} → ls ≡ l ∷ next → is_term n l ≡ true
+      → first_bad n zero (suc terms) place ls ≡ first_bad n zero terms (suc place) next
+  unfolding first_bad
+  term-passes e h = rw (e, first_bad, h)
+
 -- a text that is not empty has a line
 data Some : List TextLine → Type 0 where
   some : {l : TextLine} {ls : List TextLine} → Some (l ∷ ls)
@@ -47,18 +48,13 @@ lines-some (b ∷ t) h = go (eqb b newline)
     go true = some
     go false = after (lines_of t)
 
-pub term-passes : (n terms place : ℕ) (s : List ℕ) (p : ℕ) → starts_frame 3 (10 + 4 * n) (drop p s) ≡ true
-    → first_bad n zero (suc terms) place (lines_of (drop p s)) ≡ first_bad n zero terms (suc place) (lines_of (drop (p + (11 + 4 * n)) s))
-unfolding first_bad
-term-passes n terms place s p g =
-    let next = good-line 3 (1 + 4 + 2 * n) (10 + 4 * n) (11 + 4 * n) (omega arith) (omega arith) (omega arith) s p g in
-    rw (next.1, first_bad, next.0)
-
-pub term-stops : (n terms place : ℕ) (t : List ℕ) → 0 < length t → starts_frame 3 (10 + 4 * n) t ≡ false → first_bad n zero (suc terms) place (lines_of t) ≡ found place
+pub term-stops : (n terms place : ℕ) (t : List ℕ) → 0 < length t → first_is 3 (5 + 2 * n) (lines_of t) ≡ false
+    → first_bad n zero (suc terms) place (lines_of t) ≡ found place
 unfolding first_bad first_is
-term-stops n terms place t h g = go (lines-some t h) (bad-line 3 (1 + 4 + 2 * n) (10 + 4 * n) (omega arith) (omega arith) t g)
+term-stops n terms place t h g = go (lines-some t h) g
   where
-    go : {ls : List TextLine} → Some ls → first_is 3 (1 + 4 + 2 * n) ls ≡ false → first_bad n zero (suc terms) place ls ≡ found place
+    go : {ls : List TextLine} → Some ls → first_is 3 (5 + 2 * n) ls ≡ false
+        → first_bad n zero (suc terms) place ls ≡ found place
     go some h = rw (h, first_bad)
 
 -- no term line may follow

@@ -1,137 +1,63 @@
--- What a line's numbers are, read from the text where the line starts; and what an Input holds of the lines behind, with one line more.
+-- What a line's numbers are, read from its bytes; and those of several lines, with one line more.
 -- Assumes nothing.
-use mathlib.Core.Path.{◌≡◌, refl, sym, ◌∙◌}
-use mathlib.Core.Bool.{true}
-use mathlib.Core.List.{List, [], ◌∷◌, ◌++◌, map}
-use Prim.Native.Nat.{ℕ, ◌+◌, ◌*◌, ◌<◌, ◌≤◌}
+use mathlib.Core.Path.{◌≡◌, sym, ap, ap₂, ◌∙◌}
+use mathlib.Core.List.{List, [], ◌∷◌, ◌++◌, map, map-append, append-nil, append_assoc}
+use Prim.Native.Nat.{ℕ, ◌+◌, ◌-◌, ◌*◌, ◌/◌}
 use native.Mathlib.Omega.{arith}
-use lib.ListN.{length, take, drop, length-set, length-replicate}
-use lib.Seq.{length-paste}
-use lib.IntN.{pos}
+use lib.ListN.{length, get_or, take, drop, length-drop}
+use lib.Seq.{get_or-drop}
+use Rattle.std.proofs.lemmas.List.{take_rest}
+use lib.IntN.{ℤ}
 use Rattle.whole.specs.Lists.{join}
-use Rattle.whole.proofs.Order.{row_within}
-use Rattle.rules.specs.Calls.{translate_verdict}
 use Rattle.rules.specs.Bytes.{short, long, shorts}
-use Rattle.rules.specs.Frames.{unhex, TextLine, whole, frame_of, row_modulus, row_entries, term_coefficient, term_exponents, Reading, refusal_line, answered, answer_to}
+use Rattle.rules.specs.Frames.{TextLine, frame_of, row_modulus, row_entries, term_coefficient, term_exponents}
 use Rattle.theory.proofs.Bytes.{length-shorts}
-use Rattle.frames.specs.declared.read.Input.{Input}
-use Rattle.frames.specs.Input.{problem_in, formula_in, Sized, InputHolds, refuses, takes, empty, with_row, with_term}
-use Rattle.frames.proofs.Digits.{frame_is, unhex-drop}
-use Rattle.frames.proofs.Numbers.{short_first, long_first}
-use Rattle.frames.proofs.Stored.{number_more, numbers_more, count_more}
 
 -- ---- a line's numbers
-module _ (n : ℕ) (t : List ℕ) where
-  module _ (room : 6 + 4 * n ≤ length t) where
-    row-frame : frame_of (whole (take (6 + 4 * n) t)) ≡ unhex (3 + 2 * n) t
-    row-frame = frame_is (3 + 2 * n) (6 + 4 * n) t (omega arith) room
+module _ (l : TextLine) (bytes : List ℕ) (e : bytes ≡ frame_of l) where
+  pub modulus_is : short (get_or bytes 1 0 ∷ get_or bytes 2 0 ∷ []) ≡ row_modulus l
+  unfolding row_modulus short
+  modulus_is = rw e (simp get_or-drop)
 
-    modulus_is : short (unhex 2 (drop 2 t)) ≡ row_modulus (whole (take (6 + 4 * n) t))
-    unfolding row_modulus
-    modulus_is = sym (rw (row-frame, unhex-drop 1 (2 + 2 * n) (3 + 2 * n) t (omega arith)) (short_first (2 + 2 * n) (drop 2 t) (omega arith)))
+  pub coefficient_is : long (get_or bytes 1 0 ∷ get_or bytes 2 0 ∷ get_or bytes 3 0 ∷ get_or bytes 4 0 ∷ []) ≡ term_coefficient l
+  unfolding term_coefficient long
+  coefficient_is = rw e (simp get_or-drop)
 
-    entries_are : shorts n (unhex (2 * n) (drop 6 t)) ≡ row_entries n (whole (take (6 + 4 * n) t))
-    unfolding row_entries
-    entries_are = sym (rw (row-frame, unhex-drop 3 (2 * n) (3 + 2 * n) t (omega arith)))
+  -- the n numbers after the first bytes
+  after : (n first : ℕ) → length bytes ≡ first + 2 * n
+      → shorts (length (take (length bytes - first) (drop first bytes)) / 2) (take (length bytes - first) (drop first bytes)) ≡ shorts n (drop first (frame_of l))
+  after n first k =
+      let h : length (drop first bytes) / 2 ≡ n = omega (arith, length-drop first bytes) in
+      rw (take_rest bytes first, h, e)
 
-  module _ (room : 10 + 4 * n ≤ length t) where
-    term-frame : frame_of (whole (take (10 + 4 * n) t)) ≡ unhex (5 + 2 * n) t
-    term-frame = frame_is (5 + 2 * n) (10 + 4 * n) t (omega arith) room
+  pub entries_are : (n : ℕ) → length bytes ≡ 3 + 2 * n
+      → shorts (length (take (length bytes - 3) (drop 3 bytes)) / 2) (take (length bytes - 3) (drop 3 bytes)) ≡ row_entries n l
+  unfolding row_entries
+  entries_are n k = after n 3 k
 
-    coefficient_is : long (unhex 4 (drop 2 t)) ≡ term_coefficient (whole (take (10 + 4 * n) t))
-    unfolding term_coefficient
-    coefficient_is = sym (rw (term-frame, unhex-drop 1 (4 + 2 * n) (5 + 2 * n) t (omega arith)) (long_first (4 + 2 * n) (drop 2 t) (omega arith)))
+  pub exponents_are : (n : ℕ) → length bytes ≡ 5 + 2 * n
+      → shorts (length (take (length bytes - 5) (drop 5 bytes)) / 2) (take (length bytes - 5) (drop 5 bytes)) ≡ term_exponents n l
+  unfolding term_exponents
+  exponents_are n k = after n 5 k
 
-    exponents_are : shorts n (unhex (2 * n) (drop 10 t)) ≡ term_exponents n (whole (take (10 + 4 * n) t))
-    unfolding term_exponents
-    exponents_are = sym (rw (term-frame, unhex-drop 5 (2 * n) (5 + 2 * n) t (omega arith)))
+pub length-entries : (n : ℕ) (l : TextLine) → length (row_entries n l) ≡ n
+unfolding row_entries
+length-entries n l = length-shorts n (drop 3 (frame_of l))
 
--- ---- what an Input holds of some matrix lines and some term lines
-pub record LinesHeld (m n : ℕ) (x : Input) (rows terms : List TextLine) : Type 0 where
-  pub number : x.number ≡ 0
-  pub m_is : x.m ≡ m
-  pub n_is : x.n ≡ n
-  pub terms_are : x.terms ≡ length terms
-  pub room-moduli : length x.moduli ≡ 8
-  pub room-matrix : length x.matrix ≡ 128
-  pub room-coefficients : length x.coefficients ≡ 64
-  pub room-exponents : length x.exponents ≡ 1024
-  pub moduli : take (length rows) x.moduli ≡ map row_modulus rows
-  pub matrix : take (length rows * n) x.matrix ≡ join (map (row_entries n) rows)
-  pub coefficients : take (length terms) x.coefficients ≡ map term_coefficient terms
-  pub exponents : take (length terms * n) x.exponents ≡ join (map (term_exponents n) terms)
+pub length-exponents : (n : ℕ) (l : TextLine) → length (term_exponents n l) ≡ n
+unfolding term_exponents
+length-exponents n l = length-shorts n (drop 5 (frame_of l))
 
-pub held_none : (m n : ℕ) → LinesHeld m n (empty 0 0 m n) [] []
-unfolding empty
-held_none m n =
-    let z : 0 * n ≡ 0 = omega arith in
-    record {
-      number = refl;
-      m_is = refl;
-      n_is = refl;
-      terms_are = refl;
-      room-moduli = length-replicate 8 (pos 0);
-      room-matrix = length-replicate 128 (pos 0);
-      room-coefficients = length-replicate 64 (pos 0);
-      room-exponents = length-replicate 1024 (pos 0);
-      moduli = refl;
-      matrix = rw z;
-      coefficients = refl;
-      exponents = rw z;
-    }
+-- ---- one line more
+pub number_more : (f : TextLine → ℤ) (ls : List TextLine) (l : TextLine) {a b : List ℤ} (z : ℤ) → b ≡ a ++ z ∷ []
+    → a ≡ map f ls → z ≡ f l → b ≡ map f (ls ++ l ∷ [])
+number_more f ls l z e h g = e ∙ ap₂ (λ (a : List ℤ) (z : ℤ). a ++ z ∷ []) h g ∙ sym (map-append f ls (l ∷ []))
 
-module _ {m n : ℕ} {x : Input} {rows terms : List TextLine} (x-holds : LinesHeld m n x rows terms) (t : List ℕ) (columns : n ≤ 16) where
-  pub held-row : length rows < 8 → 6 + 4 * n ≤ length t → LinesHeld m n (with_row (length rows) n t x) (rows ++ whole (take (6 + 4 * n) t) ∷ []) terms
-  unfolding with_row
-  held-row few room =
-      let l : TextLine = whole (take (6 + 4 * n) t) in
-      let k = length-shorts n (unhex (2 * n) (drop 6 t)) in
-      let r = row_within (length rows) n 8 16 few columns in
-      record {
-        number = x-holds.number;
-        m_is = x-holds.m_is;
-        n_is = x-holds.n_is;
-        terms_are = x-holds.terms_are;
-        room-moduli = length-set x.moduli (length rows) _ ∙ x-holds.room-moduli;
-        room-matrix = length-paste x.matrix (length rows * n) (shorts n (unhex (2 * n) (drop 6 t))) n (omega (arith, x-holds.room-matrix)) (omega arith) ∙ x-holds.room-matrix;
-        room-coefficients = x-holds.room-coefficients;
-        room-exponents = x-holds.room-exponents;
-        moduli = number_more row_modulus rows l x.moduli _ (omega (arith, x-holds.room-moduli)) x-holds.moduli (modulus_is n t room);
-        matrix = numbers_more n (row_entries n) rows l x.matrix _ (omega (arith, x-holds.room-matrix)) k x-holds.matrix (entries_are n t room);
-        coefficients = x-holds.coefficients;
-        exponents = x-holds.exponents;
-      }
+join_more : (f : TextLine → List ℤ) (ls : List TextLine) (l : TextLine)
+    → join (map f (ls ++ l ∷ [])) ≡ join (map f ls) ++ f l
+join_more f [] l = append-nil (f l)
+join_more f (k ∷ ls) l = ap (λ (r : List ℤ). f k ++ r) (join_more f ls l) ∙ sym (append_assoc (f k) (join (map f ls)) (f l))
 
-  pub held-term : length terms < 64 → 10 + 4 * n ≤ length t → LinesHeld m n (with_term (length terms) n t x) rows (terms ++ whole (take (10 + 4 * n) t) ∷ [])
-  unfolding with_term
-  held-term few room =
-      let l : TextLine = whole (take (10 + 4 * n) t) in
-      let k = length-shorts n (unhex (2 * n) (drop 10 t)) in
-      let r = row_within (length terms) n 64 16 few columns in
-      record {
-        number = x-holds.number;
-        m_is = x-holds.m_is;
-        n_is = x-holds.n_is;
-        terms_are = sym (count_more terms l);
-        room-moduli = x-holds.room-moduli;
-        room-matrix = x-holds.room-matrix;
-        room-coefficients = length-set x.coefficients (length terms) _ ∙ x-holds.room-coefficients;
-        room-exponents = length-paste x.exponents (length terms * n) (shorts n (unhex (2 * n) (drop 10 t))) n (omega (arith, x-holds.room-exponents)) (omega arith) ∙ x-holds.room-exponents;
-        moduli = x-holds.moduli;
-        matrix = x-holds.matrix;
-        coefficients = number_more term_coefficient terms l x.coefficients _ (omega (arith, x-holds.room-coefficients)) x-holds.coefficients (coefficient_is n t room);
-        exponents = numbers_more n (term_exponents n) terms l x.exponents _ (omega (arith, x-holds.room-exponents)) k x-holds.exponents (exponents_are n t room);
-      }
-
--- ---- what was read, by its number
-pub number-refuses : {x : Input} {r : Reading} → InputHolds x r → (x.number ≡ 0 → ⊥) → refusal_line x.number x.place ≡ answer_to r
-number-refuses (refuses h) n = refl
-number-refuses (takes z) n = absurd (n z.number)
-
-pub number-sized : {x : Input} {r : Reading} → InputHolds x r → x.number ≡ 0 → Sized x
-number-sized (refuses h) n = absurd (h n)
-number-sized (takes z) n = z
-
-pub number-takes : {x : Input} {r : Reading} → InputHolds x r → x.number ≡ 0 → answered (problem_in x) (formula_in x) (translate_verdict (problem_in x) (formula_in x) true true) ≡ answer_to r
-number-takes (refuses h) n = absurd (h n)
-number-takes (takes z) n = refl
+pub numbers_more : (f : TextLine → List ℤ) (ls : List TextLine) (l : TextLine) {a b : List ℤ} (zs : List ℤ)
+    → b ≡ a ++ zs → a ≡ join (map f ls) → zs ≡ f l → b ≡ join (map f (ls ++ l ∷ []))
+numbers_more f ls l zs e h g = e ∙ ap₂ ◌++◌ h g ∙ sym (join_more f ls l)

@@ -1,23 +1,23 @@
 -- Laws for the proofs of this crate's functions. Nothing here is part of any contract, and nothing is assumed.
 --     Digits          digits of a text, and the bytes that they write
---     Numbers         the bytes of a line as numbers
+--     Pairs           a list made from the pairs of another, pair by pair
+--     Numbers         bytes as numbers, and pairs of digits as bytes
 --     Lines           the first line of a text, as the code tests it and as the definitions have it
 --     FirstBad        the search for the first line that is bad or missing, step by step
---     Stored          the numbers of lines at the front of an array, one line more
---     InputContents   what an Input holds of the lines behind
+--     InputContents   the numbers of a line, and of several with one more
 --     Progress        where the reading stands after some lines
---     Writes          texts written into a buffer, one after the other
---     Printed         the printed lines, one number, one row, one term more
+--     Writes          a text that is printed part by part
+--     Printed         the printed lines: what comes next of them, and how long they are
 --     Prefix          the first 5,376 bytes of the input decide the program's answer
 --     Broken          an input that ends with a blank is refused
---     Filled          texts written one after the other from the start of a buffer, and how long they are
---     Fits            the lengths of what was read and of the arrays that are lent
+--     Filled          how long the lines of a solution are
+--     Fits            what was read has the lengths that the calls ask
 --     Solved          what the two calls answer to what was read, and the lines that tell it
 pub mod Digits
+pub mod Pairs
 pub mod Numbers
 pub mod Lines
 pub mod FirstBad
-pub mod Stored
 pub mod InputContents
 pub mod Progress
 pub mod Writes

@@ -1,191 +1,106 @@
--- The printed lines: how long they are, and what one number, one row, one term more adds to them.
+-- The printed lines: what comes next of them, and how long they are.
 -- Assumes nothing.
 use mathlib.Core.Path.{◌≡◌, refl, sym, ap, ◌∙◌}
-use mathlib.Core.List.{List, [], ◌∷◌, ◌++◌, append-nil, append_assoc}
-use Prim.Native.Nat.{ℕ, zero, suc, ◌+◌, ◌*◌, ◌/◌, ◌%◌, ◌<◌, ◌≤◌}
-use native.Mathlib.Nat.{suc-mul, zero-mul, le_refl}
+use mathlib.Core.List.{List, [], ◌∷◌, ◌++◌}
+use Prim.Native.Nat.{ℕ, zero, suc, ◌+◌, ◌-◌, ◌*◌, ◌/◌, ◌%◌, ◌<◌, ◌≤◌}
+use native.Mathlib.Nat.{suc-mul, zero-mul, add-div_left, div-eq_of_lt, mul-div_cancel}
 use native.Mathlib.Numerals.{add-one}
 use native.Mathlib.Omega.{arith}
-use lib.ListN.{length, get_or, take, drop, set, length-append, length-drop}
-use lib.Seq.{length-take-le, take-suc, take-append-le, drop-append-le, get_or-drop, drop-drop}
+use lib.ListN.{length, get_or, take, drop, length-append, length-drop}
+use lib.Seq.{drop-cons, length-take-le, take_at, drop_at}
 use lib.IntN.{ℤ, pos}
-use Rattle.whole.proofs.Order.{row_within}
-use Rattle.rules.specs.Calls.{filled}
 use Rattle.rules.specs.Bytes.{byte, bytes_of}
 use Rattle.rules.specs.Frames.{digit_of, hex, frame, row_lines, term_lines}
-use Rattle.theory.proofs.Bytes.{length-bytes, bytes-more}
-use Rattle.frames.specs.Output.{Wrote, row_text, term_text}
-use Rattle.frames.proofs.Writes.{hex-append, wrote-both, wrote-hex, wrote-length, wrote-two}
+use Rattle.theory.proofs.Bytes.{length-bytes}
+use Rattle.frames.specs.Output.{row_text, rows_text, term_text}
+use Rattle.frames.proofs.Writes.{Next}
 
--- ---- bytes
+-- ---- what comes next
+pub next-byte : (bs : List ℕ) (i : ℕ) → i < length bs
+    → Next (hex (drop i bs)) (digit_of (get_or bs i 0 / 16) ∷ digit_of (get_or bs i 0 % 16) ∷ [])
+    (hex (drop (i + 1) bs))
+unfolding hex
+next-byte bs i h = record { is = rw add-one (ap hex (drop-cons bs i 0 h)) }
+
+pub next-number : (zs : List ℤ) (i : ℕ) → i < length zs
+    → Next (hex (bytes_of (drop i zs))) (hex (bytes_of (get_or zs i (pos 0) ∷ []))) (hex (bytes_of (drop (i + 1) zs)))
+unfolding hex bytes_of
+next-number zs i h = record { is = rw add-one (ap (λ (l : List ℤ). hex (bytes_of l)) (drop-cons zs i (pos 0) h)) }
+
+-- x is the first of the rows to come
+pub next-row : (kind width : ℕ) (rest x after : List ℤ) → 0 < width → rest ≡ x ++ after → length x ≡ width
+    → Next (rows_text kind width rest) (row_text kind x) (rows_text kind width after)
+unfolding rows_text row_lines row_text
+next-row kind width rest x after h e l =
+    let k : length rest ≡ width + length after = omega (arith, ap length e, length-append x after) in
+    let n : length rest / width ≡ suc (length after / width)
+    = ap (λ (j : ℕ). j / width) k ∙ add-div_left (length after) h ∙ add-one (length after / width) in
+    record { is = rw (n, e, take_at x after width l, drop_at x after width l) }
+
+pub rows_none : (kind width : ℕ) (zs : List ℤ) → length zs < width → rows_text kind width zs ≡ []
+unfolding rows_text row_lines
+rows_none kind width zs h = ap (λ (k : ℕ). row_lines kind k width zs) (div-eq_of_lt h)
+
+-- a table's text is that of its rows
+pub table-text : (kind count width : ℕ) (zs : List ℤ) → 0 < width → length zs ≡ count * width
+    → rows_text kind width zs ≡ row_lines kind count width zs
+unfolding rows_text
+table-text kind count width zs h e = rw (e, mul-div_cancel count h)
+
+pub next-term : (d : ℕ) (cs : List ℤ) (i : ℕ) (es : List ℤ) → i < length cs
+    → Next (term_lines d (drop i cs) es) (term_text (get_or cs i (pos 0)) (take d es))
+    (term_lines d (drop (i + 1) cs) (drop d es))
+unfolding term_lines term_text
+next-term d cs i es h = record { is = rw add-one (ap (λ (l : List ℤ). term_lines d l es) (drop-cons cs i (pos 0) h)) }
+
+-- n parts of w numbers each are to come, but for the first i
+module _ (n i w : ℕ) (zs : List ℤ) (h : i < n) (inside : (n - i) * w ≤ length zs) where
+  split : (n - i) * w ≡ (n - (i + 1)) * w + w
+  split = let e : n - i ≡ suc (n - (i + 1)) = omega arith in ap (λ (k : ℕ). k * w) e ∙ suc-mul (n - (i + 1)) w
+
+  pub after-inside : (n - (i + 1)) * w ≤ length (drop w zs)
+  after-inside = omega (arith, split, length-drop w zs)
+
+-- ---- lengths
 pub hex-length : (bs : List ℕ) → length (hex bs) ≡ 2 * length bs
 unfolding hex
 hex-length [] = refl
 hex-length (b ∷ bs) = let i = hex-length bs in omega arith
 
-hex-more : (bs : List ℕ) (k : ℕ) → k < length bs → hex (take (suc k) bs) ≡ hex (take k bs) ++ digit_of (get_or bs k 0 / 16) ∷ digit_of (get_or bs k 0 % 16) ∷ []
-unfolding hex
-hex-more bs k h = ap hex (take-suc bs k 0 h) ∙ hex-append (take k bs) (get_or bs k 0 ∷ [])
-
-module _ {d e : List ℕ} {at : ℕ} (bs : List ℕ) (k : ℕ) (room : at + 2 * length bs ≤ length d) (x : Wrote d e at (hex (take k bs)) (at + 2 * k)) where
-  pub byte-length : k ≤ length bs → length e ≡ length d
-  byte-length h = wrote-length x (omega (arith, hex-length (take k bs), length-take-le k bs h))
-
-  pub byte-again : k < length bs → (high low : ℕ) → high ≡ digit_of (get_or bs k 0 / 16) → low ≡ digit_of (get_or bs k 0 % 16)
-      → Wrote d (set (set e (at + 2 * k) high) (at + 2 * k + 1) low) at (hex (take (k + 1) bs)) (at + 2 * (k + 1))
-  byte-again h high low f g =
-      let n = byte-length (omega arith) in
-      let q : at + 2 * k + 2 ≡ at + 2 * (k + 1) = omega arith in
-      let l = length-take-le k bs (omega arith) in
-      let y = wrote-two e (at + 2 * k) high low _ _ (omega arith) f g in
-      rw (add-one k, hex-more bs k h, ← add-one k, ← q) (wrote-both x y (omega (arith, hex-length (take k bs))))
-
 pub frame-length : (bs : List ℕ) → length (frame bs) ≡ 2 * length bs + 1
 unfolding frame
 frame-length bs = length-append (hex bs) (10 ∷ []) ∙ omega (arith, hex-length bs)
 
--- ---- numbers
-part_length : (zs : List ℤ) (from k : ℕ) → from + k ≤ length zs → length (take k (drop from zs)) ≡ k
-part_length zs from k h = length-take-le k (drop from zs) (omega (arith, length-drop from zs))
-
-pub digits-length : (zs : List ℤ) (from k : ℕ) → from + k ≤ length zs → length (hex (bytes_of (take k (drop from zs)))) ≡ 8 * k
-digits-length zs from k h =
-    omega (arith, hex-length (bytes_of (take k (drop from zs))), length-bytes (take k (drop from zs)), part_length zs from k h)
-
--- one number more
-module _ {d e : List ℕ} {at p : ℕ} (zs : List ℤ) (from k count : ℕ) (h : k < count) (l : from + count ≤ length zs) (room : at + 8 * count ≤ length d)
-    (x : Wrote d e at (hex (bytes_of (take k (drop from zs)))) p) where
-  pub number-room : p + 8 ≤ length e
-  number-room =
-      let t = digits-length zs from k (omega arith) in
-      let n = wrote-length x (omega arith) in
-      omega (arith, x.next_is)
-
-  pub number-again : {f : List ℕ} {q : ℕ} (z : ℤ) → Wrote e f p (hex (bytes_of (z ∷ []))) q → z ≡ get_or zs (from + k) (pos 0)
-      → Wrote d f at (hex (bytes_of (take (k + 1) (drop from zs)))) q
-  number-again z y g =
-      let n : k < length (drop from zs) = omega (arith, length-drop from zs) in
-      let t : bytes_of (take (k + 1) (drop from zs)) ≡ bytes_of (take k (drop from zs)) ++ bytes_of (z ∷ []) = rw (g, ← get_or-drop) (bytes-more (drop from zs) k n) in
-      rw t (wrote-hex (bytes_of (take k (drop from zs))) (bytes_of (z ∷ [])) x y (omega (arith, digits-length zs from k (omega arith), hex-length (bytes_of (z ∷ [])), length-bytes (z ∷ []))))
-
--- ---- rows
-row-length : (kind width : ℕ) (zs : List ℤ) (from : ℕ) → from + width ≤ length zs → length (row_text kind (take width (drop from zs))) ≡ 3 + 8 * width
+row-length : (kind width : ℕ) (zs : List ℤ) → width ≤ length zs → length (row_text kind (take width zs)) ≡ 3 + 8 * width
 unfolding row_text
-row-length kind width zs from h =
-    frame-length (byte kind ++ bytes_of (take width (drop from zs))) ∙ omega (arith, length-bytes (take width (drop from zs)), part_length zs from width h)
+row-length kind width zs h =
+    frame-length (byte kind ++ bytes_of (take width zs))
+    ∙ omega (arith, length-bytes (take width zs), length-take-le width zs h)
 
-rows_more : (kind i width : ℕ) (zs : List ℤ) → row_lines kind (suc i) width zs ≡ row_lines kind i width zs ++ row_text kind (take width (drop (i * width) zs))
+pub rows-length : (kind count width : ℕ) (zs : List ℤ) → count * width ≤ length zs
+    → length (row_lines kind count width zs) ≡ count * (3 + 8 * width)
 unfolding row_lines row_text
-rows_more kind zero width zs = rw zero-mul (append-nil (row_text kind (take width zs)))
-rows_more kind (suc i) width zs =
-    let e : width + i * width ≡ suc i * width = rw suc-mul (omega arith) in
-    ap (λ (r : List ℕ). row_text kind (take width zs) ++ r)
-    (rows_more kind i width (drop width zs)
-    ∙ ap (λ (l : List ℤ). row_lines kind i width (drop width zs) ++ row_text kind (take width l)) (drop-drop (i * width) width zs ∙ ap (λ (k : ℕ). drop k zs) e))
-    ∙ sym (append_assoc (row_text kind (take width zs)) (row_lines kind i width (drop width zs)) _)
-
-pub rows-length : (kind i width : ℕ) (zs : List ℤ) → i * width ≤ length zs → length (row_lines kind i width zs) ≡ i * (3 + 8 * width)
-unfolding row_lines
 rows-length kind zero width zs h = sym (zero-mul (3 + 8 * width))
-rows-length kind (suc i) width zs h =
-    let s : suc i * width ≡ i * width + width = suc-mul i width in
-    let j = rows-length kind i width zs (omega arith) in
-    let r = row-length kind width zs (i * width) (omega arith) in
-    ap length (rows_more kind i width zs) ∙ length-append (row_lines kind i width zs) _ ∙ rw (suc-mul i (3 + 8 * width)) (omega arith)
+rows-length kind (suc count) width zs h =
+    let s : suc count * width ≡ count * width + width = suc-mul count width in
+    let j = rows-length kind count width (drop width zs) (omega (arith, length-drop width zs)) in
+    let r = row-length kind width zs (omega arith) in
+    length-append (row_text kind (take width zs)) (row_lines kind count width (drop width zs))
+    ∙ rw (suc-mul count (3 + 8 * width)) (omega arith)
 
-module _ {d e : List ℕ} {at p : ℕ} (kind i count width : ℕ) (zs : List ℤ) (h : i < count) (l : count * width ≤ length zs) (room : at + count * (3 + 8 * width) ≤ length d)
-    (x : Wrote d e at (row_lines kind i width zs) p) where
-  pub row_inside : i * width + width ≤ length zs
-  row_inside = let a = row_within i width count width h (le_refl _) in omega arith
-
-  pub row_room : p + (3 + 8 * width) ≤ length e
-  row_room =
-      let a = row_inside in
-      let b = row_within i (3 + 8 * width) count (3 + 8 * width) h (le_refl _) in
-      let t = rows-length kind i width zs (omega arith) in
-      let n = wrote-length x (omega arith) in
-      omega (arith, x.next_is)
-
-  pub row-again : {f : List ℕ} {q : ℕ} → Wrote e f p (row_text kind (take width (drop (i * width) zs))) q → Wrote d f at (row_lines kind (i + 1) width zs) q
-  row-again y =
-      let a = row_inside in
-      let b = row_within i (3 + 8 * width) count (3 + 8 * width) h (le_refl _) in
-      rw (add-one, rows_more) (wrote-both x y (omega (arith, rows-length kind i width zs (omega arith), row-length kind width zs (i * width) (omega arith))))
-
--- ---- terms
-term-length : (z : ℤ) (d : ℕ) (es : List ℤ) (from : ℕ) → from + d ≤ length es → length (term_text z (take d (drop from es))) ≡ 11 + 8 * d
+term-length : (z : ℤ) (d : ℕ) (es : List ℤ) → d ≤ length es → length (term_text z (take d es)) ≡ 11 + 8 * d
 unfolding term_text
-term-length z d es from h =
-    frame-length (byte 0x85 ++ bytes_of (z ∷ take d (drop from es))) ∙ omega (arith, length-bytes (z ∷ take d (drop from es)), part_length es from d h)
+term-length z d es h =
+    frame-length (byte 0x85 ++ bytes_of (z ∷ take d es))
+    ∙ omega (arith, length-bytes (z ∷ take d es), length-take-le d es h)
 
-terms-more : (d : ℕ) (cs : List ℤ) (z : ℤ) (es : List ℤ) → term_lines d (cs ++ z ∷ []) es ≡ term_lines d cs es ++ term_text z (take d (drop (length cs * d) es))
-unfolding term_lines term_text
-terms-more d [] z es = rw zero-mul (append-nil (term_text z (take d es)))
-terms-more d (c ∷ cs) z es =
-    let e : d + length cs * d ≡ suc (length cs) * d = rw suc-mul (omega arith) in
-    ap (λ (r : List ℕ). term_text c (take d es) ++ r)
-    (terms-more d cs z (drop d es)
-    ∙ ap (λ (l : List ℤ). term_lines d cs (drop d es) ++ term_text z (take d l)) (drop-drop (length cs * d) d es ∙ ap (λ (k : ℕ). drop k es) e))
-    ∙ sym (append_assoc (term_text c (take d es)) (term_lines d cs (drop d es)) _)
-
-pub terms-length : (d : ℕ) (cs : List ℤ) (es : List ℤ) → length cs * d ≤ length es → length (term_lines d cs es) ≡ length cs * (11 + 8 * d)
+pub terms-length : (d : ℕ) (cs : List ℤ) (es : List ℤ) → length cs * d ≤ length es
+    → length (term_lines d cs es) ≡ length cs * (11 + 8 * d)
 unfolding term_lines term_text
 terms-length d [] es h = sym (zero-mul (11 + 8 * d))
 terms-length d (c ∷ cs) es h =
     let s : suc (length cs) * d ≡ length cs * d + d = suc-mul (length cs) d in
     let j = terms-length d cs (drop d es) (omega (arith, length-drop d es)) in
-    let r = term-length c d es 0 (omega arith) in
-    length-append (term_text c (take d es)) (term_lines d cs (drop d es)) ∙ rw (suc-mul (length cs) (11 + 8 * d)) (omega arith)
-
-module _ {a b : List ℕ} {at p : ℕ} (d i count : ℕ) (cs es : List ℤ) (h : i < count) (l : count ≤ length cs) (m : count * d ≤ length es) (room : at + count * (11 + 8 * d) ≤ length a)
-    (x : Wrote a b at (term_lines d (take i cs) es) p) where
-  pub term-inside : i * d + d ≤ length es
-  term-inside = let r = row_within i d count d h (le_refl _) in omega arith
-
-  text-length : length (term_lines d (take i cs) es) ≡ i * (11 + 8 * d)
-  text-length =
-      let e = length-take-le i cs (omega arith) in
-      let r = term-inside in
-      terms-length d (take i cs) es (rw e (omega arith)) ∙ ap (λ (j : ℕ). j * (11 + 8 * d)) e
-
-  pub term-room : p + (11 + 8 * d) ≤ length b
-  term-room =
-      let r = row_within i (11 + 8 * d) count (11 + 8 * d) h (le_refl _) in
-      let t = text-length in
-      let n = wrote-length x (omega arith) in
-      omega (arith, x.next_is)
-
-  pub term-again : {c : List ℕ} {q : ℕ} (z : ℤ) → z ≡ get_or cs i (pos 0) → Wrote b c p (term_text z (take d (drop (i * d) es))) q
-      → Wrote a c at (term_lines d (take (i + 1) cs) es) q
-  term-again {c} {q} z g y =
-      let r = row_within i (11 + 8 * d) count (11 + 8 * d) h (le_refl _) in
-      let u = term-inside in
-      let n : i < length cs = omega arith in
-      let e = length-take-le i cs (omega arith) in
-      let t : term_lines d (take (i + 1) cs) es ≡ term_lines d (take i cs) es ++ term_text z (take d (drop (i * d) es))
-      = ap (λ (l : List ℤ). term_lines d l es) (rw (add-one, g) (take-suc cs i (pos 0) n)) ∙ terms-more d (take i cs) z es
-      ∙ ap (λ (j : ℕ). term_lines d (take i cs) es ++ term_text z (take d (drop (j * d) es))) e in
-      rw t (wrote-both x y (omega (arith, text-length, term-length z d es (i * d) (omega arith))))
-
--- ---- only the entries printed count
-rows-front : (kind count width : ℕ) (xs ys : List ℤ) → count * width ≤ length xs → row_lines kind count width (xs ++ ys) ≡ row_lines kind count width xs
-unfolding row_lines
-rows-front kind zero width xs ys h = refl
-rows-front kind (suc count) width xs ys h =
-    let m = suc-mul count width in
-    let l : width ≤ length xs = omega arith in
-    let rest = rows-front kind count width (drop width xs) ys (omega (arith, length-drop width xs)) in
-    rw (take-append-le width xs ys l, drop-append-le width xs ys l, rest)
-
-pub rows_same : (kind count width : ℕ) (contents lent after : List ℤ) → length contents ≡ count * width → after ≡ filled contents lent
-    → row_lines kind count width after ≡ row_lines kind count width contents
-rows_same kind count width contents lent after l e = rw e (rows-front kind count width contents (drop (length contents) lent) (omega arith))
-
-pub terms-front : (d : ℕ) (cs xs ys : List ℤ) → length cs * d ≤ length xs → term_lines d cs (xs ++ ys) ≡ term_lines d cs xs
-unfolding term_lines
-terms-front d [] xs ys h = refl
-terms-front d (c ∷ cs) xs ys h =
-    let m = suc-mul (length cs) d in
-    let l : d ≤ length xs = omega arith in
-    let rest = terms-front d cs (drop d xs) ys (omega (arith, length-drop d xs)) in
-    rw (take-append-le d xs ys l, drop-append-le d xs ys l, rest)
+    let r = term-length c d es (omega arith) in
+    length-append (term_text c (take d es)) (term_lines d cs (drop d es))
+    ∙ rw (suc-mul (length cs) (11 + 8 * d)) (omega arith)

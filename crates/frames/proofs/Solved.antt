@@ -4,151 +4,186 @@ use mathlib.Core.Path.{◌≡◌, refl, sym, ap, ap₂, ◌∙◌, subst}
 use mathlib.Core.Bool.{Bool, true, ◌&&◌}
 use mathlib.Core.List.{List, ◌++◌}
 use Prim.Native.Nat.{ℕ, ◌+◌, ◌*◌, ◌≤◌}
-use native.Mathlib.Nat.{mul-le-mul}
 use native.Mathlib.Omega.{arith}
 use borrow.Author.Tests.{le-leb}
 use lib.Dec.{leb}
-use lib.ListN.{length, take, drop, replicate, length-replicate, length-append, length-drop, take-append-drop}
+use lib.ListN.{length, take, drop, replicate, length-replicate, length-take}
 use lib.Seq.{take_at}
 use lib.IntN.{ℤ, pos}
-use Rattle.rules.specs.Problem.{N}
+use Rattle.std.specs.Prelude.{Result, Ok, Err, IsErr}
+use Rattle.std.specs.Result.{IsErrAnd}
+use Rattle.arrayvec.specs.ArrayVec.{ArrayVec}
+use Rattle.rules.specs.Problem.{Problem, N}
 use Rattle.rules.specs.Stages.{run}
-use Rattle.rules.specs.Formulas.{d, terms}
-use Rattle.rules.specs.Calls.{Verdict, taken, refused, translate_verdict, build_verdict, problem_fits, formula_fits, contents_h, contents_v, contents_w, translated_exponents, Built, built, build_of, Translated, translated_to, translate_of}
+use Rattle.rules.specs.Formulas.{Formula, d, terms}
+use Rattle.rules.specs.Calls.{Verdict, taken, refused, translate_verdict, build_verdict, problem_fits, formula_fits}
+use Rattle.rules.specs.Calls.{contents_h, contents_v, contents_w, translated_exponents, filled, built, build_of}
+use Rattle.rules.specs.Calls.{Translated, translated_to, translate_of}
+use Rattle.rules.specs.Calls as calls
 use Rattle.rules.specs.Frames.{row_lines, term_lines, sizes_line, printed, answered, refusal_line}
-use Rattle.scaling.specs.BuildPromise.{Builds}
-use Rattle.formulas.specs.FormulaPromises.{Translates}
+use Rattle.scaling.specs.BuildPromise.{Builds, RoomToBuild}
+use Rattle.formulas.specs.FormulaPromises.{Translates, RoomToTranslate}
 use Rattle.theory.proofs.Grid.{length-grid}
 use Rattle.theory.proofs.Refusals.{build_taken, translate_not_0}
+use Rattle.checks.specs.declared.Refusal.{Refusal}
+use Rattle.checks.specs.Refusals.{number_of, place_of}
+use Rattle.scaling.specs.declared.Built.{Built}
 use Rattle.scaling.specs.declared.BuildAnswer.{BuildAnswer}
 use Rattle.formulas.specs.declared.TranslateAnswer.{TranslateAnswer}
-use Rattle.frames.specs.declared.read.Input.{Input}
-use Rattle.frames.specs.declared.solve.Sizes.{Sizes}
-use Rattle.frames.specs.Input.{Sized, problem_in, formula_in}
-use Rattle.frames.specs.Output.{Room, solution_text, sizes_text, IsTranslated}
-use Rattle.frames.proofs.Printed.{rows_same, terms-front}
-use Rattle.frames.proofs.Fits.{filled-room, few-moduli, coefficients-length, problem-fits, formula-fits}
+use Rattle.frames.specs.declared.input.Input.{Input}
+use Rattle.frames.specs.Input.{problem_in, formula_in}
+use Rattle.frames.specs.Output.{Prints, Room, solution_text, sizes_text, rows_text}
+use Rattle.frames.proofs.Printed.{table-text}
+use Rattle.frames.proofs.Fits.{few-moduli, problem-fits, formula-fits}
 
--- ---- the arrays that the code lends for the outputs
+-- ---- the arrays that the code lends for the outputs have room
 abbrev pub fresh : (count : ℕ) → List ℤ
 fresh count = replicate count (pos 0)
 
 pub room : (count : ℕ) → length (fresh count) ≡ count
 room count = length-replicate count (pos 0)
 
-module _ {x : Input} (z : Sized x) where
+at-least : (count : ℕ) → count ≤ length (fresh count)
+at-least count = omega (arith, room count)
+
+pub room-for-terms : RoomToTranslate (fresh 64) (fresh 1024)
+room-for-terms = record { kept = at-least 64; translated = at-least 1024 }
+
+pub room-for-rows : RoomToBuild (fresh 192) (fresh 576) (fresh 576)
+room-for-rows = record { h = at-least 192; v = at-least 576; w = at-least 576 }
+
+-- a refusal that is handed on prints its line
+pub refused-prints : (r : Result (ArrayVec ℕ) Refusal) (e : Refusal) {text : List ℕ}
+    → IsErr r × IsErrAnd r (λ x. x ≡ e) → text ≡ refusal_line (number_of e) (place_of e) → Prints r text
+refused-prints (Ok x) e h g = absurd h.1
+refused-prints (Err x) e h g = rw h.1 g
+
+-- the first k entries of a lent array are what it was filled with
+pub record Front (k : ℕ) (after contents : List ℤ) : Type 0 where
+  pub is : take k after ≡ contents
+  pub long : length contents ≡ k
+  pub room : k ≤ length after
+
+filled-front : (contents lent after : List ℤ) {k : ℕ} → after ≡ filled contents lent → length contents ≡ k → Front k after contents
+filled-front contents lent after {k} e l =
+    let is : take k after ≡ contents = rw e (take_at contents (drop (length contents) lent) k l) in
+    record { is = is; long = l; room = omega (arith, ap length is, length-take k after) }
+
+-- a formula's translation was taken: d, and at the front of two arrays the coefficients and the translated exponents
+pub record IsTranslated (P : Problem) (f : Formula) (groups : ℕ) (kept translated : List ℤ) : Type 0 where
+  pub verdict : translate_verdict P f true true ≡ taken
+  pub d_is : groups ≡ d P (run P)
+  pub coefficients : Front (terms f) kept f.coefficients
+  pub exponents : Front (terms f * groups) translated (translated_exponents P f)
+
+module _ (x : Input) where
+  abbrev P : Problem
+  P = problem_in x
+
+  abbrev f : Formula
+  f = formula_in x
+
   -- ---- the translation
-  module _ (kept₀ translated₀ : List ℤ) {kept translated : List ℤ} {t : TranslateAnswer} (kept₀-room : length kept₀ ≡ 64) (translated₀-room : length translated₀ ≡ 1024)
+  module _ {kept₀ translated₀ kept translated : List ℤ} {t : TranslateAnswer} (long : RoomToTranslate kept₀ translated₀)
       (h : Translates (translate_of (problem_in x) (formula_in x) kept₀ translated₀) t kept translated) where
-    translation_is : Translates (translated_to (problem_in x) (formula_in x) kept₀ translated₀ (translate_verdict (problem_in x) (formula_in x) true true)) t kept translated
+    translation_is : Translates (translated_to P f kept₀ translated₀ (translate_verdict P f true true)) t kept translated
     unfolding translate_of
     translation_is =
-        let inputs : problem_fits (problem_in x) && formula_fits (problem_in x) (formula_in x) ≡ true = ap₂ ◌&&◌ (problem-fits z) (formula-fits z) in
+        let inputs : problem_fits P && formula_fits P f ≡ true = ap₂ ◌&&◌ (problem-fits x) (formula-fits x) in
         let outputs : leb 64 (length kept₀) && leb 1024 (length translated₀) ≡ true
-        = ap₂ ◌&&◌ (le-leb 64 (length kept₀) (omega arith)) (le-leb 1024 (length translated₀) (omega arith)) in
-        let e : translate_of (problem_in x) (formula_in x) kept₀ translated₀
-        ≡ translated_to (problem_in x) (formula_in x) kept₀ translated₀ (translate_verdict (problem_in x) (formula_in x) true true)
-        = ap₂ (λ (i o : Bool). translated_to (problem_in x) (formula_in x) kept₀ translated₀ (translate_verdict (problem_in x) (formula_in x) i o)) inputs outputs in
-        subst (λ (b : Translated ℤ). Translates b t kept translated) e h
+        = ap₂ ◌&&◌ (le-leb 64 (length kept₀) long.kept) (le-leb 1024 (length translated₀) long.translated) in
+        let of_checks = λ (i o : Bool). translated_to P f kept₀ translated₀ (translate_verdict P f i o) in
+        subst (λ (b : Translated ℤ). Translates b t kept translated) (ap₂ of_checks inputs outputs) h
 
-    pub refused-text : (t.number ≡ 0 → ⊥) → refusal_line t.number t.place ≡ answered (problem_in x) (formula_in x) (translate_verdict (problem_in x) (formula_in x) true true)
-    refused-text n = go (translate_verdict (problem_in x) (formula_in x) true true) translation_is
+    pub refused-text : (t.number ≡ 0 → ⊥)
+        → answered P f (translate_verdict P f true true) ≡ refusal_line t.number t.place
+    refused-text n = go (translate_verdict P f true true) translation_is
       where
-        go : (v : Verdict) → Translates (translated_to (problem_in x) (formula_in x) kept₀ translated₀ v) t kept translated
-            → refusal_line t.number t.place ≡ answered (problem_in x) (formula_in x) v
+        go : (v : Verdict) → Translates (translated_to P f kept₀ translated₀ v) t kept translated
+            → answered P f v ≡ refusal_line t.number t.place
         go taken y = absurd (n y.number)
         go (refused number place) y = rw (y.number, y.place)
 
-    pub verdict_is : t.number ≡ 0 → translate_verdict (problem_in x) (formula_in x) true true ≡ taken
-    verdict_is n = go (translate_verdict (problem_in x) (formula_in x) true true) refl translation_is
+    pub is_translated : t.number ≡ 0 → IsTranslated P f t.d kept translated
+    unfolding translated_exponents
+    is_translated n = go (translate_verdict P f true true) refl translation_is
       where
-        go : (v : Verdict) → translate_verdict (problem_in x) (formula_in x) true true ≡ v → Translates (translated_to (problem_in x) (formula_in x) kept₀ translated₀ v) t kept translated → v ≡ taken
-        go taken e y = refl
-        go (refused number place) e y = absurd (translate_not_0 (problem_in x) true true (formula_in x) number place e (sym y.number ∙ n))
-
-    pub is_translated : t.number ≡ 0 → length translated ≡ 1024 → IsTranslated (problem_in x) (formula_in x) t.d kept translated
-    is_translated n room =
-        let y : Translates (translated_to (problem_in x) (formula_in x) kept₀ translated₀ taken) t kept translated = rw (verdict_is n) at translation_is in
-        let es : List ℤ = translated_exponents (problem_in x) (formula_in x) in
-        let l : length translated ≡ length es + length (drop (length es) translated₀) = ap length y.translated ∙ length-append es (drop (length es) translated₀) in
-        record {
-          verdict = verdict_is n;
+        go : (v : Verdict) → translate_verdict P f true true ≡ v
+            → Translates (translated_to P f kept₀ translated₀ v) t kept translated → IsTranslated P f t.d kept translated
+        go taken e y = record {
+          verdict = e;
           d_is = y.d;
-          kept-room = filled-room (formula_in x).coefficients kept₀ kept y.kept (omega arith);
-          translated-room = room;
-          coefficients = rw y.kept (take_at (formula_in x).coefficients (drop (terms (formula_in x)) kept₀) (terms (formula_in x)) refl);
-          exponents-fit = omega (arith, length-drop (length es) translated₀);
-          exponents = rw y.translated (take_at es (drop (length es) translated₀) (length es) refl);
+          coefficients = filled-front f.coefficients kept₀ kept y.kept refl;
+          exponents = rw y.d
+              (filled-front (translated_exponents P f) translated₀ translated y.translated (length-grid (terms f) (d P (run P)) _));
         }
+        go (refused number place) e y = absurd (translate_not_0 P true true f number place e (sym y.number ∙ n))
 
   -- ---- the build
-  module _ (h₀ v₀ w₀ : List ℤ) {h v w kept translated : List ℤ} {b : BuildAnswer} {groups : ℕ} (h₀-room : length h₀ ≡ 192) (v₀-room : length v₀ ≡ 576) (w₀-room : length w₀ ≡ 576)
-      (t : IsTranslated (problem_in x) (formula_in x) groups kept translated) (y : Builds (build_of (problem_in x) h₀ v₀ w₀) b h v w) where
-    build_is : Builds (built (problem_in x) h₀ v₀ w₀ taken) b h v w
+  module _ {kept translated : List ℤ} {groups : ℕ}
+      (t : IsTranslated (problem_in x) (formula_in x) groups kept translated)
+      {h₀ v₀ w₀ h v w : List ℤ} {a : BuildAnswer} (long : RoomToBuild h₀ v₀ w₀)
+      (y : Builds (build_of (problem_in x) h₀ v₀ w₀) a h v w) where
+    pub build_is : Builds (built P h₀ v₀ w₀ taken) a h v w
     unfolding build_of
     build_is =
+        let lent : leb 192 (length h₀) && leb 576 (length v₀) ≡ true
+        = ap₂ ◌&&◌ (le-leb 192 (length h₀) long.h) (le-leb 576 (length v₀) long.v) in
         let outputs : leb 192 (length h₀) && leb 576 (length v₀) && leb 576 (length w₀) ≡ true
-        = ap₂ ◌&&◌ (ap₂ ◌&&◌ (le-leb 192 (length h₀) (omega arith)) (le-leb 576 (length v₀) (omega arith))) (le-leb 576 (length w₀) (omega arith)) in
-        let e : build_of (problem_in x) h₀ v₀ w₀ ≡ built (problem_in x) h₀ v₀ w₀ taken
-        = ap₂ (λ (i o : Bool). built (problem_in x) h₀ v₀ w₀ (build_verdict (problem_in x) i o)) (problem-fits z) outputs
-        ∙ ap (built (problem_in x) h₀ v₀ w₀) (build_taken (problem_in x) true true (formula_in x) t.verdict) in
-        subst (λ (r : Built ℤ). Builds r b h v w) e y
+        = ap₂ ◌&&◌ lent (le-leb 576 (length w₀) long.w) in
+        let e : build_of P h₀ v₀ w₀ ≡ built P h₀ v₀ w₀ taken
+        = ap₂ (λ (i o : Bool). built P h₀ v₀ w₀ (build_verdict P i o)) (problem-fits x) outputs
+        ∙ ap (built P h₀ v₀ w₀) (build_taken P true true f t.verdict) in
+        subst (λ (r : calls.Built ℤ). Builds r a h v w) e y
 
-    translated-length : length (translated_exponents (problem_in x) (formula_in x)) ≡ terms (formula_in x) * d (problem_in x) (run (problem_in x))
-    unfolding translated_exponents
-    translated-length = length-grid (terms (formula_in x)) (d (problem_in x) (run (problem_in x))) _
+    abbrev b : Built
+    b = record { rank = a.rank; moduli = a.moduli; steps = a.steps }
 
-    abbrev sizes : Sizes
-    sizes = record { m = x.m; n = x.n; s = b.moduli; r = b.rank; steps = b.steps; d = groups; terms = x.terms }
+    abbrev columns : ℕ
+    columns = x.n + a.moduli
 
-    few-exponents : x.terms * groups ≤ 1024
-    few-exponents = rw (← (coefficients-length z), t.d_is, ← translated-length) t.exponents-fit
-
-    pub solution_room : Room sizes h v w kept translated
-    solution_room =
-        let columns : x.n + b.moduli ≤ 24 = omega (arith, build_is.moduli, few-moduli z, z.few-columns) in
-        let high : x.m * (x.n + b.moduli) ≤ 192 = mul-le-mul {n₂ = 8} {m₂ = 24} z.few-rows columns in
-        let square : (x.n + b.moduli) * (x.n + b.moduli) ≤ 576 = mul-le-mul {n₂ = 24} {m₂ = 24} columns columns in
-        record {
-          few-rows = z.few-rows;
-          few-columns = columns;
-          few-terms = z.few-terms;
-          few-exponents = few-exponents;
-          h-room = filled-room (contents_h (problem_in x)) h₀ h build_is.h (omega (arith, high, h₀-room));
-          v-room = filled-room (contents_v (problem_in x)) v₀ v build_is.v (omega (arith, square, v₀-room));
-          w-room = filled-room (contents_w (problem_in x)) w₀ w build_is.w (omega (arith, square, w₀-room));
-          coefficients-room = omega (arith, t.kept-room, z.few-terms);
-          exponents-room = omega (arith, t.translated-room, few-exponents);
-        }
-
-    columns_are : x.n + b.moduli ≡ N (problem_in x)
+    columns_are : columns ≡ N P
     columns_are = ap (λ (k : ℕ). x.n + k) build_is.moduli
 
-    sizes_same : sizes_text x.m x.n b.moduli b.rank b.steps ≡ sizes_line (problem_in x)
-    unfolding sizes_text sizes_line
-    sizes_same = rw (build_is.moduli, build_is.rank, build_is.steps)
-
-    h_same : row_lines 0x82 x.m (x.n + b.moduli) h ≡ row_lines 0x82 x.m (N (problem_in x)) (contents_h (problem_in x))
+    h-front : Front (x.m * columns) h (contents_h P)
     unfolding contents_h
-    h_same = rw columns_are (rows_same 0x82 x.m (N (problem_in x)) (contents_h (problem_in x)) h₀ h (length-grid x.m (N (problem_in x)) _) build_is.h)
+    h-front = rw columns_are (filled-front (contents_h P) h₀ h build_is.h (length-grid x.m (N P) _))
 
-    v_same : row_lines 0x83 (x.n + b.moduli) (x.n + b.moduli) v ≡ row_lines 0x83 (N (problem_in x)) (N (problem_in x)) (contents_v (problem_in x))
+    v-front : Front (columns * columns) v (contents_v P)
     unfolding contents_v
-    v_same = rw columns_are (rows_same 0x83 (N (problem_in x)) (N (problem_in x)) (contents_v (problem_in x)) v₀ v (length-grid (N (problem_in x)) (N (problem_in x)) _) build_is.v)
+    v-front = rw columns_are (filled-front (contents_v P) v₀ v build_is.v (length-grid (N P) (N P) _))
 
-    w_same : row_lines 0x84 (x.n + b.moduli) (x.n + b.moduli) w ≡ row_lines 0x84 (N (problem_in x)) (N (problem_in x)) (contents_w (problem_in x))
+    w-front : Front (columns * columns) w (contents_w P)
     unfolding contents_w
-    w_same = rw columns_are (rows_same 0x84 (N (problem_in x)) (N (problem_in x)) (contents_w (problem_in x)) w₀ w (length-grid (N (problem_in x)) (N (problem_in x)) _) build_is.w)
+    w-front = rw columns_are (filled-front (contents_w P) w₀ w build_is.w (length-grid (N P) (N P) _))
 
-    terms_same : term_lines groups (take x.terms kept) translated ≡ term_lines (d (problem_in x) (run (problem_in x))) (formula_in x).coefficients (translated_exponents (problem_in x) (formula_in x))
-    terms_same =
-        let es : List ℤ = translated_exponents (problem_in x) (formula_in x) in
-        let cs : take x.terms kept ≡ (formula_in x).coefficients = ap (λ (k : ℕ). take k kept) (sym (coefficients-length z)) ∙ t.coefficients in
-        let split : translated ≡ es ++ drop (length es) translated
-        = sym (take-append-drop (length es) translated) ∙ ap (λ (r : List ℤ). r ++ drop (length es) translated) t.exponents in
-        ap (term_lines groups (take x.terms kept)) split
-        ∙ rw (cs, t.d_is) (terms-front (d (problem_in x) (run (problem_in x))) (formula_in x).coefficients es (drop (length es) translated) (omega (arith, translated-length)))
+    pub solution_room : length translated ≡ 1024 → Room x b groups h v w kept translated
+    solution_room e = record {
+      few-columns = omega (arith, build_is.moduli, few-moduli x, x.sized.few-columns);
+      few-exponents = omega (arith, t.exponents.room);
+      h-room = h-front.room;
+      v-room = v-front.room;
+      w-room = w-front.room;
+      kept-room = t.coefficients.room;
+      translated-room = t.exponents.room;
+    }
 
-    pub solution_text_lem : solution_text sizes h v w kept translated ≡ printed (problem_in x) (formula_in x)
-    unfolding solution_text printed
-    solution_text_lem = ap₂ ◌++◌ (ap₂ ◌++◌ (ap₂ ◌++◌ (ap₂ ◌++◌ sizes_same h_same) v_same) w_same) terms_same
+    table_is : (kind count : ℕ) {zs contents : List ℤ} → Front (count * columns) zs contents
+        → rows_text kind columns (take (count * columns) zs) ≡ row_lines kind count columns contents
+    table_is kind count {zs} {contents} i =
+        ap (rows_text kind columns) i.is
+        ∙ table-text kind count columns contents (omega (arith, x.sized.some-columns)) i.long
+
+    pub solution_text_lem : solution_text x b groups h v w kept translated
+        ≡ answered P f (translate_verdict P f true true)
+    unfolding solution_text sizes_text sizes_line printed
+    solution_text_lem =
+        let sizes : sizes_text x.m x.n b ≡ sizes_line P = rw (build_is.moduli, build_is.rank, build_is.steps) in
+        let h-rows = rw columns_are at (table_is 0x82 x.m h-front) in
+        let v-rows = rw columns_are at (table_is 0x83 columns v-front) in
+        let w-rows = rw columns_are at (table_is 0x84 columns w-front) in
+        let lines : term_lines groups (take (terms f) kept) (take (terms f * groups) translated)
+        ≡ term_lines (d P (run P)) f.coefficients (translated_exponents P f)
+        = rw (t.coefficients.is, t.exponents.is, t.d_is) in
+        rw columns_are (ap₂ ◌++◌ (ap₂ ◌++◌ (ap₂ ◌++◌ (ap₂ ◌++◌ sizes h-rows) v-rows) w-rows) lines)
+        ∙ ap (answered P f) (sym t.verdict)

@@ -1,74 +1,71 @@
--- What the code has printed: a text in a lent buffer.
-use Rattle.std.specs.Prelude.{◌≡◌, true, List, ◌∷◌, ◌++◌, ℕ, ◌+◌, ◌-◌, ◌*◌, ◌≤◌, length, take, drop, replicate, ℤ}
-use Rattle.rules.specs.Problem.{Problem}
-use Rattle.rules.specs.Stages.{run}
-use Rattle.rules.specs.Formulas as formula
-use Rattle.rules.specs.Formulas.{Formula, terms}
-use Rattle.rules.specs.Calls.{taken, translate_verdict, translated_exponents}
+-- What the code has printed.
+use Rattle.std.specs.Prelude.{◌≡◌, List, ◌∷◌, ◌++◌, ℕ, ◌+◌, ◌*◌, ◌/◌, ◌≤◌, length, take, ℤ, Result, Ok, Err}
+use Rattle.arrayvec.specs.ArrayVec.{ArrayVec, array_vec_len}
 use Rattle.rules.specs.Bytes.{byte, four_bytes, bytes_of}
-use Rattle.rules.specs.Frames.{frame, row_lines, term_lines}
-use Rattle.frames.specs.declared.Text.{Text}
-use Rattle.frames.specs.declared.solve.Sizes.{Sizes}
+use Rattle.rules.specs.Frames.{frame, row_lines, term_lines, refusal_line}
+use Rattle.checks.specs.declared.Refusal.{Refusal}
+use Rattle.checks.specs.Refusals.{number_of, place_of}
+use Rattle.scaling.specs.declared.Built.{Built}
+use Rattle.frames.specs.declared.input.Input.{Input}
+use Rattle.frames.specs.declared.print.Kind.{Kind}
+use Rattle.frames.specs.declared.print.Kind.TheVariants.{Sizes, H, V, W, Term, Refused}
 
--- a text written over a buffer from an index on
-unfoldable pub written : List ℕ → (at : ℕ) → (text : List ℕ) → List ℕ
-written out at text = take at out ++ text ++ drop (at + length text) out
+-- there is room for a text after what is printed
+abbrev pub Fits : ArrayVec ℕ → (text : List ℕ) → Type 0
+Fits x text = array_vec_len x + length text ≤ 20480
 
--- the buffer was entry and is exit, a text having been written to it from an index on; the next index
-pub record Wrote (entry exit : List ℕ) (at : ℕ) (text : List ℕ) (next : ℕ) : Type 0 where
-  pub next_is : next ≡ at + length text
-  pub exit_is : exit ≡ written entry at text
+-- the first byte of a line
+abbrev pub kind_byte : Kind → ℕ
+kind_byte Sizes = 0x81
+kind_byte H = 0x82
+kind_byte V = 0x83
+kind_byte W = 0x84
+kind_byte Term = 0x85
+kind_byte Refused = 0xff
 
 -- the sizes line, its numbers given
-unfoldable pub sizes_text : (m n s r steps : ℕ) → List ℕ
-sizes_text m n s r steps = frame (byte 0x81 ++ byte m ++ byte n ++ byte s ++ byte r ++ four_bytes steps)
+unfoldable pub sizes_text : (m n : ℕ) → Built → List ℕ
+sizes_text m n b = frame (byte 0x81 ++ byte m ++ byte n ++ byte b.moduli ++ byte b.rank ++ four_bytes b.steps)
 
 -- the line of a row, and that of a term
 unfoldable pub row_text : (kind : ℕ) → List ℤ → List ℕ
 row_text kind zs = frame (byte kind ++ bytes_of zs)
 
+-- a line for each width numbers
+unfoldable pub rows_text : (kind width : ℕ) → List ℤ → List ℕ
+rows_text kind width zs = row_lines kind (length zs / width) width zs
+
 unfoldable pub term_text : (coefficient : ℤ) → (exponents : List ℤ) → List ℕ
 term_text z es = frame (byte 0x85 ++ bytes_of (z ∷ es))
 
 -- ---- a whole output
-abbrev pub zeros : (count : ℕ) → List ℕ
-zeros count = replicate count 0
-
--- a Text is the text given, and zeros after it
-pub record Shows (x : Text) (text : List ℕ) : Type 0 where
+-- a Text is the text given
+pub record Shows (x : ArrayVec ℕ) (text : List ℕ) : Type 0 where
   pub fits : length text ≤ 20480
-  pub len_is : x.len ≡ length text
-  pub bytes_are : x.bytes ≡ text ++ zeros (20480 - length text)
+  pub items_are : x.items ≡ text
 
-abbrev pub columns : Sizes → ℕ
-columns x = x.n + x.s
+-- a Text is the text given, or there is none, and the text is a refusal's line
+abbrev pub Prints : Result (ArrayVec ℕ) Refusal → List ℕ → Type 0
+Prints (Ok x) text = Shows x text
+Prints (Err r) text = text ≡ refusal_line (number_of r) (place_of r)
 
--- the numbers are those of a problem, and the arrays have the entries that are printed
-pub record Room (x : Sizes) (h v w coefficients exponents : List ℤ) : Type 0 where
-  pub few-rows : x.m ≤ 8
-  pub few-columns : columns x ≤ 24
-  pub few-terms : x.terms ≤ 64
-  pub few-exponents : x.terms * x.d ≤ 1024
-  pub h-room : x.m * columns x ≤ length h
-  pub v-room : columns x * columns x ≤ length v
-  pub w-room : columns x * columns x ≤ length w
-  pub coefficients-room : x.terms ≤ length coefficients
-  pub exponents-room : x.terms * x.d ≤ length exponents
+abbrev pub columns : Input → Built → ℕ
+columns x b = x.n + b.moduli
 
-unfoldable pub solution_text : Sizes → (h v w coefficients exponents : List ℤ) → List ℕ
-solution_text x h v w cs es =
-    sizes_text x.m x.n x.s x.r x.steps
-    ++ row_lines 0x82 x.m (columns x) h
-    ++ row_lines 0x83 (columns x) (columns x) v
-    ++ row_lines 0x84 (columns x) (columns x) w
-    ++ term_lines x.d (take x.terms cs) es
+-- the numbers are those of a problem and its formula, and the arrays have the entries that are printed
+pub record Room (x : Input) (b : Built) (d : ℕ) (h v w kept translated : List ℤ) : Type 0 where
+  pub few-columns : columns x b ≤ 24
+  pub few-exponents : length x.coefficients.items * d ≤ 1024
+  pub h-room : x.m * columns x b ≤ length h
+  pub v-room : columns x b * columns x b ≤ length v
+  pub w-room : columns x b * columns x b ≤ length w
+  pub kept-room : length x.coefficients.items ≤ length kept
+  pub translated-room : length x.coefficients.items * d ≤ length translated
 
--- a formula's translation was taken: d, and at the front of two arrays the coefficients and the translated exponents
-pub record IsTranslated (P : Problem) (f : Formula) (d : ℕ) (kept translated : List ℤ) : Type 0 where
-  pub verdict : translate_verdict P f true true ≡ taken
-  pub d_is : d ≡ formula.d P (run P)
-  pub kept-room : 64 ≤ length kept
-  pub translated-room : length translated ≡ 1024
-  pub coefficients : take (terms f) kept ≡ f.coefficients
-  pub exponents-fit : length (translated_exponents P f) ≤ 1024
-  pub exponents : take (length (translated_exponents P f)) translated ≡ translated_exponents P f
+unfoldable pub solution_text : Input → Built → (d : ℕ) → (h v w kept translated : List ℤ) → List ℕ
+solution_text x b d h v w kept translated =
+    sizes_text x.m x.n b
+    ++ rows_text 0x82 (columns x b) (take (x.m * columns x b) h)
+    ++ rows_text 0x83 (columns x b) (take (columns x b * columns x b) v)
+    ++ rows_text 0x84 (columns x b) (take (columns x b * columns x b) w)
+    ++ term_lines d (take (length x.coefficients.items) kept) (take (length x.coefficients.items * d) translated)

@@ -2,31 +2,35 @@
 #![tactic(auto)]
 
 ghost use Rattle.rules.specs.Frames.{program};
-ghost use Rattle.frames.specs.Output.{Shows};
+ghost use Rattle.frames.specs.Output.{Shows, Prints};
 
+mod input;
 mod line;
 mod print;
 mod read;
 mod solve;
 
+use arrayvec::ArrayVec;
+use checks::Refusal;
+
 // The longest text that is printed has fewer bytes.
 pub const TEXT_BYTES: usize = 20480;
 
-// A text: the first `len` bytes, and zeros after them.
-#[derive(Clone, Copy)]
-pub struct Text {
-    pub bytes: [u8; TEXT_BYTES],
-    pub len: usize,
-}
+// What is printed.
+pub type Text = ArrayVec<u8, TEXT_BYTES>;
 
 // What the program prints for an input.
 pub fn answer(input: &[u8]) -> Text
     ensures { Shows result (program input.now) }
 {
-    let x = read::read(input);
-    let number = x.number;
-    if number != 0 {
-        return solve::refused(number, x.place);
-    }
-    solve::solve(x)
+    outcome(input).unwrap_or_else(solve::refused)
+}
+
+// The lines of a solution, or why there are none.
+#[tactic(auto, unfolding(rules::specs::Frames::program))]
+fn outcome(input: &[u8]) -> Result<Text, Refusal>
+    ensures { Prints result (program input.now) }
+{
+    let x = read::read(input)?;
+    solve::solve(&x)
 }

@@ -1,91 +1,75 @@
-// The input's text: digits, the bytes that they write, the numbers that the bytes are, and the form of a line.
-// No line is split off: a line's parts stand at fixed places after its first digit.
-ghost use Rattle.std.specs.Prelude.{◌≡◌, true, ◌+◌, ◌<◌, ◌≤◌, length, take, drop};
-ghost use Rattle.rules.specs.Bytes as rules;
-ghost use Rattle.rules.specs.Frames as frames;
-ghost use Rattle.rules.specs.Frames.{all_digits, unhex};
-ghost use Rattle.frames.specs.Line.{pair};
-ghost use Rattle.frames.specs.Line as lines;
+// The lines of the input's text: digits, the bytes that they write, and the line that starts a text.
+ghost use Rattle.std.specs.Prelude.{◌≡◌, ◌/◌, ◌%◌, ◌≤◌, length};
+ghost use Rattle.frames.specs.Line.{digit_in, byte_in, Decodes, kind_byte, TakesFirst};
 
-// What a byte of text is worth as a digit; 16 for one that is no lower-case digit.
-#[tactic(auto, unfolding(rules::specs::Frames::digit))]
-fn digit(b: u8) -> u8
-    ensures { result ≡ frames.digit b }
-{
-    if 48 <= b {
-        if b <= 57 {
-            return b - 48;
-        }
-        if 97 <= b {
-            if b <= 102 {
-                return b - 87;
-            }
-        }
-    }
-    16
+use arrayvec::ArrayVec;
+
+// The longest line that is read, a term of 16 quantities, has so many bytes.
+pub const LONGEST: usize = 37;
+
+// What a line tells, by its first byte.
+#[derive(Clone, Copy)]
+pub enum Kind {
+    Sizes = 1,
+    Row = 2,
+    Term = 3,
 }
 
-// Whether `count` digits stand from `at` on.
-fn digits(text: &[u8], at: usize, count: usize) -> bool
-    requires { at + count ≤ length text.now }
-    ensures { result ≡ all_digits (take count (drop at text.now)) }
+// A line's bytes, and the text after it.
+#[derive(Drop)]
+pub struct Line<'a> {
+    pub bytes: ArrayVec<u8, LONGEST>,
+    pub rest: &'a [u8],
+}
+
+// What a byte of text is worth as a digit, if it is a lower-case digit.
+#[tactic(auto, unfolding(rules::specs::Frames::digit))]
+fn digit(b: u8) -> Option<u8>
+    ensures { result ≡ digit_in b }
 {
-    let mut k = 0;
-    while k < count {
-        if digit(text[at + k]) == 16 {
-            return false;
-        }
-        k += 1;
+    match b {
+        b'0'..=b'9' => Some(b - b'0'),
+        b'a'..=b'f' => Some(b - b'a' + 10),
+        _ => None,
     }
-    true
 }
 
 // The byte that two digits write.
-pub fn byte(text: &[u8], at: usize) -> u8
-    requires at_in_bounds { at + 1 < length text.now }
-    requires text_value { all_digits (take 2 (drop at text.now)) ≡ true }
-    ensures { result ≡ pair (drop at text.now) }
+fn byte(high: u8, low: u8) -> Option<u8>
+    ensures { result ≡ byte_in high low }
 {
-    16 * digit(text[at]) + digit(text[at + 1])
+    Some(16 * digit(high)? + digit(low)?)
 }
 
-// The number that two bytes, four digits, write.
-pub fn short(text: &[u8], at: usize) -> i32
-    requires at_in_bounds { at + 3 < length text.now }
-    requires text_value { all_digits (take 4 (drop at text.now)) ≡ true }
-    ensures { result ≡ rules.short (unhex 2 (drop at text.now)) }
+// The bytes that pairs of digits write, if all are digits.
+fn unhex(digits: &[u8]) -> Option<ArrayVec<u8, LONGEST>>
+    requires pairs { length digits.now % 2 ≡ 0 }
+    requires room { length digits.now / 2 ≤ LONGEST }
+    ensures { Decodes digits.now result }
 {
-    let a = byte(text, at);
-    let b = byte(text, at + 2);
-    byte_numbers::short(a, b)
+    let mut bytes = ArrayVec::new();
+    for pair in digits.chunks_exact(2) {
+        bytes.push(byte(pair[0], pair[1])?);
+    }
+    Some(bytes)
 }
 
-// The number that four bytes, eight digits, write.
-pub fn long(text: &[u8], at: usize) -> i32
-    requires at_in_bounds { at + 7 < length text.now }
-    requires text_value { all_digits (take 8 (drop at text.now)) ≡ true }
-    ensures { result ≡ rules.long (unhex 4 (drop at text.now)) }
+// The line that starts a text, if it is of the kind and has `count` bytes.
+pub fn first_line(text: &[u8], kind: Kind, count: usize) -> Option<Line<'_>>
+    requires some { 1 ≤ count }
+    requires room { count ≤ LONGEST }
+    ensures { TakesFirst (kind_byte kind) count text.now result }
 {
-    let a = byte(text, at);
-    let b = byte(text, at + 2);
-    let c = byte(text, at + 4);
-    let d = byte(text, at + 6);
-    byte_numbers::long(a, b, c, d)
-}
-
-// Whether a line of `count` digits and a newline, its first byte `kind`, starts at `at`.
-pub fn starts_frame(text: &[u8], at: usize, kind: u8, count: usize) -> bool
-    requires { (at ≤ length text.now) × (2 ≤ count) }
-    ensures { result ≡ lines.starts_frame kind count (drop at text.now) }
-{
-    if text.len() - at <= count {
-        return false;
+    let end = 2 * count;
+    if text.len() <= end || text[end] != b'\n' {
+        return None;
     }
-    if !digits(text, at, count) {
-        return false;
+    let bytes = unhex(&text[..end])?;
+    if bytes[0] != kind as u8 {
+        return None;
     }
-    if text[at + count] != 10 {
-        return false;
-    }
-    byte(text, at) == kind
+    Some(Line {
+        bytes,
+        rest: &text[end + 1..],
+    })
 }

@@ -1,12 +1,26 @@
-// Printing the program's lines into a lent buffer: each function writes from an index on and answers the next index.
-ghost use Rattle.std.specs.Prelude.{◌≡◌, [], ◌∷◌, ◌+◌, ◌*◌, ◌<◌, ◌≤◌, length, take, drop};
+// Printing the program's lines: each function appends to a text that has room.
+ghost use Rattle.std.specs.Prelude.{◌≡◌, [], ◌∷◌, ◌++◌, ◌*◌, ◌<◌, ◌≤◌, length};
 ghost use Rattle.rules.specs.Bytes.{bytes_of};
-ghost use Rattle.rules.specs.Bytes as rules;
-ghost use Rattle.rules.specs.Frames.{digit_of, row_lines, term_lines, refusal_line};
+ghost use Rattle.rules.specs.Frames.{digit_of, term_lines, refusal_line};
 ghost use Rattle.rules.specs.Frames as frames;
-ghost use Rattle.frames.specs.Output.{Wrote, sizes_text, row_text, term_text};
+ghost use Rattle.checks.specs.Refusals.{number_of, place_of};
+ghost use Rattle.frames.specs.Output.{Fits, kind_byte, sizes_text, row_text, rows_text, term_text};
 
-use byte_numbers::{four_bytes, low};
+use crate::Text;
+use byte_numbers::four_bytes;
+use checks::Refusal;
+use scaling::Built;
+
+// What a printed line tells, which its first byte says.
+#[derive(Clone, Copy)]
+pub enum Kind {
+    Sizes = 0x81,
+    H = 0x82,
+    V = 0x83,
+    W = 0x84,
+    Term = 0x85,
+    Refused = 0xff,
+}
 
 // The digit of a number below 16.
 #[tactic(auto, unfolding(rules::specs::Frames::digit_of))]
@@ -14,154 +28,112 @@ fn digit(x: u8) -> u8
     requires { x < 16 }
     ensures { result ≡ digit_of x }
 {
-    if x < 10 { 48 + x } else { 87 + x }
+    if x < 10 { b'0' + x } else { b'a' + (x - 10) }
 }
 
 // The digits of some bytes.
-fn hex(out: &mut [u8], at: usize, bs: &[u8]) -> usize
-    requires { at + 2 * length bs.now ≤ length out.old }
-    ensures { Wrote out.old out.new at (frames.hex bs.now) result }
+#[tactic(auto, unfolding(rules::specs::Frames::hex))]
+fn hex(out: &mut Text, bs: &[u8])
+    requires { Fits out.old (frames.hex bs.now) }
+    ensures { out.new.items ≡ out.old.items ++ frames.hex bs.now }
 {
-    let mut k = 0;
-    while k < bs.len() {
-        out[at + 2 * k] = digit(bs[k] / 16);
-        out[at + 2 * k + 1] = digit(bs[k] % 16);
-        k += 1;
+    for b in bs {
+        out.push(digit(*b / 16));
+        out.push(digit(*b % 16));
     }
-    at + 2 * bs.len()
-}
-
-fn newline(out: &mut [u8], at: usize) -> usize
-    requires { at + 1 ≤ length out.old }
-    ensures { Wrote out.old out.new at (10 ∷ []) result }
-{
-    out[at] = 10;
-    at + 1
 }
 
 // A line of the bytes given.
-fn frame(out: &mut [u8], at: usize, bs: &[u8]) -> usize
-    requires { at + (2 * length bs.now + 1) ≤ length out.old }
-    ensures { Wrote out.old out.new at (frames.frame bs.now) result }
+#[tactic(auto, unfolding(rules::specs::Frames::frame))]
+fn frame(out: &mut Text, bs: &[u8])
+    requires { Fits out.old (frames.frame bs.now) }
+    ensures { out.new.items ≡ out.old.items ++ frames.frame bs.now }
 {
-    let end = hex(out, at, bs);
-    newline(out, end)
+    hex(out, bs);
+    out.push(b'\n');
 }
 
-// A number in four bytes.
-fn number(out: &mut [u8], at: usize, z: i32) -> usize
-    requires { at + 8 ≤ length out.old }
-    ensures { Wrote out.old out.new at (frames.hex (bytes_of (z ∷ []))) result }
+#[tactic(auto, unfolding(rules::specs::Frames::refusal_line))]
+pub fn refusal(out: &mut Text, r: Refusal)
+    requires { Fits out.old (refusal_line (number_of r) (place_of r)) }
+    ensures { out.new.items ≡ out.old.items ++ refusal_line (number_of r) (place_of r) }
 {
-    let bs = four_bytes(z);
-    hex(out, at, &bs)
-}
-
-pub fn refusal(out: &mut [u8], at: usize, n: u32, place: u32) -> usize
-    requires { at + 9 ≤ length out.old }
-    ensures { Wrote out.old out.new at (refusal_line n place) result }
-{
-    let bs = [
-        0xff,
-        low(n as u64),
-        low((place / 256) as u64),
-        low(place as u64),
-    ];
-    frame(out, at, &bs)
+    let [.., number] = r.number().to_be_bytes();
+    let [.., high, low] = r.place().to_be_bytes();
+    frame(out, &[Kind::Refused as u8, number, high, low]);
 }
 
 // The sizes line.
-pub fn sizes(out: &mut [u8], at: usize, m: u32, n: u32, s: u32, r: u32, steps: u64) -> usize
-    requires { at + 19 ≤ length out.old }
-    ensures { Wrote out.old out.new at (sizes_text m n s r steps) result }
+#[tactic(auto, unfolding(crate::specs::Output::sizes_text))]
+pub fn sizes(out: &mut Text, m: u32, n: u32, built: Built)
+    requires { Fits out.old (sizes_text m n built) }
+    ensures { out.new.items ≡ out.old.items ++ sizes_text m n built }
 {
-    let bs = [
-        0x81,
-        low(m as u64),
-        low(n as u64),
-        low(s as u64),
-        low(r as u64),
-        low(steps / 16777216),
-        low(steps / 65536),
-        low(steps / 256),
-        low(steps),
-    ];
-    frame(out, at, &bs)
+    let [.., m] = m.to_be_bytes();
+    let [.., n] = n.to_be_bytes();
+    let [.., s] = built.moduli.to_be_bytes();
+    let [.., r] = built.rank.to_be_bytes();
+    let [.., a, b, c, d] = built.steps.to_be_bytes();
+    frame(out, &[Kind::Sizes as u8, m, n, s, r, a, b, c, d]);
 }
 
-// `count` numbers of `zs`, from zs[from] on.
-fn numbers(out: &mut [u8], at: usize, zs: &[i32], from: usize, count: usize) -> usize
-    requires count_in_bounds { from + count ≤ length zs.now }
-    requires count_in_bounds_2 { at + 8 * count ≤ length out.old }
-    ensures { Wrote out.old out.new at (frames.hex (bytes_of (take count (drop from zs.now)))) result }
+// Numbers in four bytes each.
+#[tactic(auto, unfolding(rules::specs::Frames::hex, rules::specs::Bytes::bytes_of))]
+fn numbers(out: &mut Text, zs: &[i32])
+    requires { Fits out.old (frames.hex (bytes_of zs.now)) }
+    ensures { out.new.items ≡ out.old.items ++ frames.hex (bytes_of zs.now) }
 {
-    let mut p = at;
-    let mut k = 0;
-    while k < count {
-        p = number(out, p, zs[from + k]);
-        k += 1;
+    for z in zs {
+        hex(out, &four_bytes(*z));
     }
-    p
 }
 
-// A line's kind.
-fn kind_byte(out: &mut [u8], at: usize, kind: u32) -> usize
-    requires { at + 2 ≤ length out.old }
-    ensures { Wrote out.old out.new at (frames.hex (rules.byte kind)) result }
+// A line of a row's numbers.
+#[tactic(auto, unfolding(crate::specs::Output::row_text, rules::specs::Frames::frame, rules::specs::Frames::hex))]
+fn row(out: &mut Text, kind: Kind, zs: &[i32])
+    requires { Fits out.old (row_text (kind_byte kind) zs.now) }
+    ensures { out.new.items ≡ out.old.items ++ row_text (kind_byte kind) zs.now }
 {
-    let bs = [low(kind as u64)];
-    hex(out, at, &bs)
+    hex(out, &[kind as u8]);
+    numbers(out, zs);
+    out.push(b'\n');
 }
 
-// A line of a row's `width` numbers.
-fn row(out: &mut [u8], at: usize, kind: u32, zs: &[i32], from: usize, width: usize) -> usize
-    requires width_in_bounds { from + width ≤ length zs.now }
-    requires width_in_bounds_2 { at + (3 + 8 * width) ≤ length out.old }
-    ensures { Wrote out.old out.new at (row_text kind (take width (drop from zs.now))) result }
+// The rows of H, of V, of W: a line for each `width` numbers.
+#[tactic(auto, unfolding(crate::specs::Output::rows_text))]
+pub fn rows(out: &mut Text, kind: Kind, zs: &[i32], width: usize)
+    requires width_positive { 0 < width }
+    requires room { Fits out.old (rows_text (kind_byte kind) width zs.now) }
+    ensures { out.new.items ≡ out.old.items ++ rows_text (kind_byte kind) width zs.now }
 {
-    let p = kind_byte(out, at, kind);
-    let q = numbers(out, p, zs, from, width);
-    newline(out, q)
-}
-
-// The rows of H, of V, of W: `count` lines of `width` numbers each.
-pub fn rows(out: &mut [u8], at: usize, kind: u32, zs: &[i32], count: usize, width: usize) -> usize
-    requires width_in_bounds { count * width ≤ length zs.now }
-    requires width_in_bounds_2 { at + count * (3 + 8 * width) ≤ length out.old }
-    ensures { Wrote out.old out.new at (row_lines kind count width zs.now) result }
-{
-    let mut p = at;
-    let mut i = 0;
-    while i < count {
-        p = row(out, p, kind, zs, i * width, width);
-        i += 1;
+    for zs in zs.chunks_exact(width) {
+        row(out, kind, zs);
     }
-    p
 }
 
-// A line of a term's coefficient and d exponents.
-fn term(out: &mut [u8], at: usize, z: i32, es: &[i32], from: usize, d: usize) -> usize
-    requires d_in_bounds { from + d ≤ length es.now }
-    requires d_in_bounds_2 { at + (11 + 8 * d) ≤ length out.old }
-    ensures { Wrote out.old out.new at (term_text z (take d (drop from es.now))) result }
+// A line of a term's coefficient and exponents.
+#[tactic(auto, unfolding(crate::specs::Output::term_text, rules::specs::Frames::frame, rules::specs::Frames::hex, rules::specs::Bytes::bytes_of))]
+fn term(out: &mut Text, z: i32, es: &[i32])
+    requires { Fits out.old (term_text z es.now) }
+    ensures { out.new.items ≡ out.old.items ++ term_text z es.now }
 {
-    let p = kind_byte(out, at, 0x85);
-    let q = number(out, p, z);
-    let r = numbers(out, q, es, from, d);
-    newline(out, r)
+    hex(out, &[Kind::Term as u8]);
+    numbers(out, &[z]);
+    numbers(out, es);
+    out.push(b'\n');
 }
 
-// The first `count` terms, a line each.
-pub fn terms(out: &mut [u8], at: usize, cs: &[i32], es: &[i32], count: usize, d: usize) -> usize
-    requires count_in_bounds { (count ≤ length cs.now) × (count * d ≤ length es.now) }
-    requires d_in_bounds { at + count * (11 + 8 * d) ≤ length out.old }
-    ensures { Wrote out.old out.new at (term_lines d (take count cs.now) es.now) result }
+// The terms, a line each; each has `d` exponents, of which there may be none.
+#[tactic(auto, unfolding(rules::specs::Frames::term_lines))]
+pub fn terms(out: &mut Text, cs: &[i32], es: &[i32], d: usize)
+    requires d_in_bounds { length cs.now * d ≤ length es.now }
+    requires room { Fits out.old (term_lines d cs.now es.now) }
+    ensures { out.new.items ≡ out.old.items ++ term_lines d cs.now es.now }
 {
-    let mut p = at;
-    let mut i = 0;
-    while i < count {
-        p = term(out, p, cs[i], es, i * d, d);
-        i += 1;
+    let mut rest = es;
+    for z in cs {
+        let (es, after) = rest.split_at(d);
+        term(out, *z, es);
+        rest = after;
     }
-    p
 }

@@ -5,13 +5,10 @@
 mod input;
 
 fn main(rt: HostRuntime) {
-    let mut input: [u8; 5376] = [0; 5376];
+    let mut input = [0; 5376];
     let held = input::read(&mut rt.stdin(), &mut input);
-    let count = held.len;
-    let text = frames::answer(&input[..count]);
-    let bytes = text.bytes;
-    let len = text.len;
-    if rt.write_all(&bytes[..len]).is_err() {
+    let text = frames::answer(&input[..held.len]);
+    if rt.write_all(&text).is_err() {
         let _ = rt.eprintln("the answer could not be written");
     }
 }

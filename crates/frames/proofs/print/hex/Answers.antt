@@ -1,16 +1,14 @@
 use Rattle.std.proofs.Common.{arith}
-use native.Mathlib.Nat.{add-zero}
-use Rattle.rules.specs.Frames.{hex}
-use Rattle.frames.proofs.Writes.{wrote_none}
-use Rattle.frames.proofs.Printed.{byte-again}
+use Rattle.frames.proofs.Writes.{next-fits}
+use Rattle.frames.proofs.Printed.{next-byte}
 use Rattle.frames.proofs.print.hex.Goals as goal
 
-pub loop-k-init : goal.loop-k-init
-unfolding hex
-loop-k-init c = (omega arith, rw add-zero (wrote_none c.args.out.now c.args.at))
+pub push-requires : goal.push-requires
+push-requires c =
+    let room = next-fits c.loop-b.invariant (next-byte c.args.bs.now c.loop-b.b-index (omega arith)) c.requires in
+    (omega arith, omega arith)
 
-pub loop-k-preserved : goal.loop-k-preserved
-loop-k-preserved c = (
-  omega arith,
-  byte-again c.args.bs.now c.loop-k.k c.requires c.loop-k.invariant.1 (omega arith) _ _ c.digit.ensures c.digit-in-loop-k.ensures,
-)
+pub push-requires-in-loop-b : goal.push-requires-in-loop-b
+push-requires-in-loop-b c =
+    let room = next-fits c.loop-b.invariant (next-byte c.args.bs.now c.loop-b.b-index (omega arith)) c.requires in
+    (omega arith, omega arith)

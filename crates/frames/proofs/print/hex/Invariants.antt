@@ -1,11 +1,8 @@
-use Rattle.std.proofs.Common.{◌+◌, ◌-◌, ◌*◌, ◌≤◌, length, take}
+use Rattle.std.proofs.Common.{drop}
 use Rattle.rules.specs.Frames as frames
-use Rattle.frames.specs.Output.{Wrote}
+use Rattle.frames.proofs.Writes.{Printing}
 use Rattle.frames.proofs.print.hex.Given as goal
 
--- the digits of the first k bytes are written
-abbrev pub invariant-loop-k : goal.invariant-loop-k
-invariant-loop-k l = (l.k ≤ length l.bs) × Wrote l.fn.out l.out l.at (frames.hex (take l.k l.bs)) (l.at + 2 * l.k)
-
-abbrev pub decreases-loop-k : goal.decreases-loop-k
-decreases-loop-k l = length l.bs - l.k
+-- the digits of the bytes from b-index on are to come
+abbrev pub invariant-loop-b : goal.invariant-loop-b
+invariant-loop-b l = Printing l.fn.out.items (frames.hex l.bs) l.out.items (frames.hex (drop l.b-index l.bs))

@@ -1,21 +1,29 @@
-use Rattle.std.proofs.Common.{arith}
-use Rattle.rules.specs.Frames.{row_lines}
-use Rattle.frames.proofs.Writes.{wrote_none}
-use Rattle.frames.proofs.Printed.{row_room, row-again}
+use Rattle.std.proofs.Common.{◌∙◌, arith}
+use Rattle.frames.specs.Output.{kind_byte}
+use Rattle.frames.proofs.Writes.{next-fits, next-printed, all-printed}
+use Rattle.frames.proofs.Printed.{next-row, rows_none}
 use Rattle.frames.proofs.print.rows.Goals as goal
 
-pub loop-i-init : goal.loop-i-init
-unfolding row_lines
-loop-i-init c = (omega arith, wrote_none c.args.out.now c.args.at)
+pub row-requires : goal.row-requires
+row-requires c =
+    let s = c.in-Some.ensures.steps in
+    let width = s.1.1 ∙ c.loop-zs.invariant.size in
+    next-fits c.loop-zs.invariant.printing
+    (next-row (kind_byte c.args.kind) c.args.width _ c.in-Some.zs.now _ c.requires.width_positive s.1.0 width)
+    c.requires.room
 
-pub row-p-requires-clause-width_in_bounds_2 : goal.row-p-requires-clause-width_in_bounds_2
-row-p-requires-clause-width_in_bounds_2 c =
-    row_room c.args.kind c.loop-i.i c.args.count c.args.width c.args.zs.now (omega arith) c.requires.width_in_bounds c.requires.width_in_bounds_2
-    c.loop-i.invariant.1
+pub loop-zs-preserved : goal.loop-zs-preserved
+loop-zs-preserved c =
+    let s = c.in-Some.ensures.steps in
+    let width = s.1.1 ∙ c.loop-zs.invariant.size in record {
+      size = s.0 ∙ c.loop-zs.invariant.size;
+      printing = next-printed c.loop-zs.invariant.printing
+          (next-row (kind_byte c.args.kind) c.args.width _ c.in-Some.zs.now _ c.requires.width_positive s.1.0 width)
+          c.row.ensures;
+    }
 
-pub loop-i-preserved : goal.loop-i-preserved
-loop-i-preserved c = (
-  omega arith,
-  row-again c.args.kind c.loop-i.i c.args.count c.args.width c.args.zs.now (omega arith) c.requires.width_in_bounds c.requires.width_in_bounds_2
-      c.loop-i.invariant.1 c.row-p.ensures,
-)
+pub returns : goal.returns
+returns c =
+    let s = c.in-None.ensures.steps in
+    all-printed c.loop-zs.invariant.printing
+    (rows_none (kind_byte c.args.kind) c.args.width _ (omega (arith, s.1.0, c.loop-zs.invariant.size)))

@@ -1,11 +1,12 @@
-use Rattle.std.proofs.Common.{◌-◌, ◌≤◌}
-use Rattle.rules.specs.Frames.{row_lines}
-use Rattle.frames.specs.Output.{Wrote}
+use Rattle.std.proofs.Common.{◌≡◌}
+use Rattle.frames.specs.Output.{kind_byte, rows_text}
+use Rattle.frames.proofs.Writes.{Printing}
 use Rattle.frames.proofs.print.rows.Given as goal
 
--- the first i rows are written
-abbrev pub invariant-loop-i : goal.invariant-loop-i
-invariant-loop-i l = (l.i ≤ l.count) × Wrote l.fn.out l.out l.at (row_lines l.kind l.i l.width l.zs) l.p
-
-abbrev pub decreases-loop-i : goal.decreases-loop-i
-decreases-loop-i l = l.count - l.i
+-- the rows that are left are to come
+abbrev pub invariant-loop-zs : goal.invariant-loop-zs
+invariant-loop-zs l = record {
+  size : l.zs-iterator.size ≡ l.width;
+  printing : Printing l.fn.out.items (rows_text (kind_byte l.kind) l.width l.zs) l.out.items
+      (rows_text (kind_byte l.kind) l.width l.zs-iterator.rest.now);
+}

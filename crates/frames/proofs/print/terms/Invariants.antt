@@ -1,11 +1,12 @@
-use Rattle.std.proofs.Common.{◌-◌, ◌≤◌, take}
+use Rattle.std.proofs.Common.{◌-◌, ◌*◌, ◌≤◌, length, drop}
 use Rattle.rules.specs.Frames.{term_lines}
-use Rattle.frames.specs.Output.{Wrote}
+use Rattle.frames.proofs.Writes.{Printing}
 use Rattle.frames.proofs.print.terms.Given as goal
 
--- the first i terms are written
-abbrev pub invariant-loop-i : goal.invariant-loop-i
-invariant-loop-i l = (l.i ≤ l.count) × Wrote l.fn.out l.out l.at (term_lines l.d (take l.i l.cs) l.es) l.p
-
-abbrev pub decreases-loop-i : goal.decreases-loop-i
-decreases-loop-i l = l.count - l.i
+-- the terms from z-index on are to come
+abbrev pub invariant-loop-z : goal.invariant-loop-z
+invariant-loop-z l = record {
+  inside : (length l.cs - l.z-index) * l.d ≤ length l.rest;
+  printing : Printing l.fn.out.items (term_lines l.d l.cs l.es) l.out.items
+      (term_lines l.d (drop l.z-index l.cs) l.rest);
+}

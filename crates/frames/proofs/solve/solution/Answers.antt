@@ -1,18 +1,28 @@
-use Rattle.std.proofs.Common.{refl}
-use Rattle.frames.proofs.Filled.{room-h, room-v, room-w, room-terms, solution_shows}
+use Rattle.std.proofs.Common.{length-append, arith}
+use Rattle.frames.specs.Output.{solution_text}
+use Rattle.frames.proofs.Filled.{solution-fits}
 use Rattle.frames.proofs.solve.solution.Goals as goal
 
-pub rows-b-requires-clause-width_in_bounds_2 : goal.rows-b-requires-clause-width_in_bounds_2
-rows-b-requires-clause-width_in_bounds_2 c = room-h c.requires refl c.sizes-a.ensures
+pub sizes-requires : goal.sizes-requires
+unfolding solution_text
+sizes-requires c = grind (arith, length-append, solution-fits c.requires)
 
-pub rows-c-requires-clause-width_in_bounds_2 : goal.rows-c-requires-clause-width_in_bounds_2
-rows-c-requires-clause-width_in_bounds_2 c = room-v c.requires refl c.sizes-a.ensures c.rows-b.ensures
+pub rows-requires-clause-room : goal.rows-requires-clause-room
+unfolding solution_text
+rows-requires-clause-room c = grind (arith, length-append, solution-fits c.requires)
 
-pub rows-e-requires-clause-width_in_bounds_2 : goal.rows-e-requires-clause-width_in_bounds_2
-rows-e-requires-clause-width_in_bounds_2 c = room-w c.requires refl c.sizes-a.ensures c.rows-b.ensures c.rows-c.ensures
+pub rows-requires-2-clause-room : goal.rows-requires-2-clause-room
+unfolding solution_text
+rows-requires-2-clause-room c = grind (arith, length-append, solution-fits c.requires)
 
-pub terms-end-requires-clause-d_in_bounds : goal.terms-end-requires-clause-d_in_bounds
-terms-end-requires-clause-d_in_bounds c = room-terms c.requires refl c.sizes-a.ensures c.rows-b.ensures c.rows-c.ensures c.rows-e.ensures
+pub rows-requires-3-clause-room : goal.rows-requires-3-clause-room
+unfolding solution_text
+rows-requires-3-clause-room c = grind (arith, length-append, solution-fits c.requires)
+
+pub terms-requires-clause-room : goal.terms-requires-clause-room
+unfolding solution_text
+terms-requires-clause-room c = grind (arith, length-append, solution-fits c.requires)
 
 pub returns : goal.returns
-returns c = solution_shows c.requires refl c.sizes-a.ensures c.rows-b.ensures c.rows-c.ensures c.rows-e.ensures c.terms-end.ensures
+unfolding solution_text
+returns c = record { fits = solution-fits c.requires; items_are = grind (arith, c.new-out.ensures) }
