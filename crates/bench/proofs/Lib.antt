@@ -1,6 +1,5 @@
 -- Laws for the bench's proofs, from the top: each module stands on those above it only.
 --     Bytes           a number in four bytes of a buffer, read there and written there
---     Rooms           which lent bytes are read and which have room, from the tests of the code
 --     Verdicts        when two verdicts agree
 --     Inputs          what the code makes of lent inputs, and which problem and formula come of it
 --     Outputs         what the code hands on for lent outputs, and what is written of it
@@ -8,7 +7,6 @@
 --     TranslateCall   the same for the translation
 --     GaugeCall       from the readings that the code gathers to those that were lent
 pub mod Bytes
-pub mod Rooms
 pub mod Verdicts
 pub mod Inputs
 pub mod Outputs

@@ -1,7 +1,5 @@
 -- Verdicts whose first three checks are 1, 2 and 3: when two of them agree, and what one that takes says. Assumes nothing.
-use mathlib.Core.Path.{◌≡◌, refl, sym}
-use mathlib.Core.Bool.{Bool, true, false}
-use mathlib.Core.List.{List, ◌∷◌}
+use Rattle.std.proofs.Common.{◌≡◌, refl, sym, Bool, true, false, List, ◌∷◌}
 use Rattle.rules.specs.Calls.{Check, taken, verdict, unless, inputs_check, outputs_check}
 use Rattle.theory.proofs.Accepted.{all_pass, unless-none}
 

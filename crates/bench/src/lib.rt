@@ -1,5 +1,5 @@
 // The bench's calls, which C reaches by bench_c: the build and the translation over bytes, each number in four of them, big-endian two's complement;
-// and every call over numbers as they are.
+// and every call over numbers as they are. Two forms of a call, and parameters and answers in plain numbers: the C interface.
 #![tactic(auto)]
 
 ghost use Rattle.rules.specs.Bench.{bench_build_of, bench_translate_of};
@@ -8,6 +8,7 @@ ghost use Rattle.rules.specs.Gauges.{lent_readings, gauge_of, gauge_answer};
 ghost use Rattle.checks.specs.Checks.{given};
 ghost use Rattle.scaling.specs.BuildPromise.{Builds};
 ghost use Rattle.formulas.specs.FormulaPromises.{Weighs, Translates, lent_translation};
+ghost use Rattle.gauges.specs.Gauging.{told};
 ghost use Rattle.bench.specs.GaugePromise.{Gauges};
 
 mod readings;
@@ -31,34 +32,19 @@ pub fn glaukemis_build(
 ) -> BuildAnswer
     ensures { Builds (bench_build_of m n matrix.now moduli.now h.old v.old w.old) result h.new v.new w.new }
 {
-    let mut a: [i32; 129] = [0; 129];
-    let entries = decode(matrix, &mut a);
-    let mut p: [i32; 9] = [0; 9];
-    let rows = decode(moduli, &mut p);
-    let mut x: [i32; ROOM_H] = [0; ROOM_H];
-    let mut y: [i32; ROOM_V] = [0; ROOM_V];
-    let mut z: [i32; ROOM_W] = [0; ROOM_W];
-    let i = room(h, ROOM_H);
-    let j = room(v, ROOM_V);
-    let k = room(w, ROOM_W);
-    let r = scaling::build(
-        m,
-        n,
-        &a[..entries],
-        &p[..rows],
-        &mut x[..i],
-        &mut y[..j],
-        &mut z[..k],
-    );
-    let number = r.number;
-    if number != 0 {
-        return r;
+    let entries = decode::<129>(matrix);
+    let rows = decode::<9>(moduli);
+    let mut x = room::<ROOM_H>(h);
+    let mut y = room::<ROOM_V>(v);
+    let mut z = room::<ROOM_W>(w);
+    let built = scaling::build(m, n, &entries, &rows, &mut x, &mut y, &mut z);
+    if let Ok(b) = built {
+        let cols = n as usize + b.moduli as usize;
+        encode(h, &x[..m as usize * cols]);
+        encode(v, &y[..cols * cols]);
+        encode(w, &z[..cols * cols]);
     }
-    let cols = n as usize + r.moduli as usize;
-    encode(h, &x, m as usize * cols);
-    encode(v, &y, cols * cols);
-    encode(w, &z, cols * cols);
-    r
+    built.into()
 }
 
 pub fn glaukemis_translate(
@@ -73,35 +59,18 @@ pub fn glaukemis_translate(
 ) -> TranslateAnswer
     ensures { Translates (bench_translate_of m n matrix.now moduli.now coefficients.now exponents.now kept.old translated.old) result kept.new translated.new }
 {
-    let mut a: [i32; 129] = [0; 129];
-    let entries = decode(matrix, &mut a);
-    let mut p: [i32; 9] = [0; 9];
-    let rows = decode(moduli, &mut p);
-    let mut c: [i32; 65] = [0; 65];
-    let terms = decode(coefficients, &mut c);
-    let mut e: [i32; 1025] = [0; 1025];
-    let powers = decode(exponents, &mut e);
-    let mut x: [i32; ROOM_COEFFICIENTS] = [0; ROOM_COEFFICIENTS];
-    let mut y: [i32; ROOM_EXPONENTS] = [0; ROOM_EXPONENTS];
-    let i = room(kept, ROOM_COEFFICIENTS);
-    let j = room(translated, ROOM_EXPONENTS);
-    let r = formulas::translate(
-        m,
-        n,
-        &a[..entries],
-        &p[..rows],
-        &c[..terms],
-        &e[..powers],
-        &mut x[..i],
-        &mut y[..j],
-    );
-    let number = r.number;
-    if number != 0 {
-        return r;
+    let entries = decode::<129>(matrix);
+    let rows = decode::<9>(moduli);
+    let terms = decode::<65>(coefficients);
+    let powers = decode::<1025>(exponents);
+    let mut x = room::<ROOM_COEFFICIENTS>(kept);
+    let mut y = room::<ROOM_EXPONENTS>(translated);
+    let groups = formulas::translate(m, n, &entries, &rows, &terms, &powers, &mut x, &mut y);
+    if let Ok(d) = groups {
+        encode(kept, &x[..terms.len()]);
+        encode(translated, &y[..terms.len() * d as usize]);
     }
-    encode(kept, &x, terms);
-    encode(translated, &y, terms * r.d as usize);
-    r
+    groups.into()
 }
 
 // Numbers as they are: each call below has the promise of the call that it makes.
@@ -116,7 +85,7 @@ pub fn glaukemis_build_numbers(
 ) -> BuildAnswer
     ensures { Builds (build_of (given m n matrix.now moduli.now) h.old v.old w.old) result h.new v.new w.new }
 {
-    scaling::build(m, n, matrix, moduli, h, v, w)
+    scaling::build(m, n, matrix, moduli, h, v, w).into()
 }
 
 pub fn glaukemis_weigh(
@@ -129,7 +98,7 @@ pub fn glaukemis_weigh(
 ) -> WeighAnswer
     ensures { Weighs (weigh_of (given m n matrix.now moduli.now) exponents.now weights.old) result weights.new }
 {
-    formulas::weigh(m, n, matrix, moduli, exponents, weights)
+    formulas::weigh(m, n, matrix, moduli, exponents, weights).into()
 }
 
 pub fn glaukemis_translate_numbers(
@@ -155,9 +124,10 @@ pub fn glaukemis_translate_numbers(
         kept,
         translated,
     )
+    .into()
 }
 
-// What a group from readings answers, since an enum does not cross to C: the number 0 with the value; or a refusal's number and place with the reading
+// What a group from readings answers in C, to which no enum crosses: the number 0 with the value; or a refusal's number and place with the reading
 // that it carries.
 #[repr(C)]
 #[derive(Clone, Copy)]
@@ -165,6 +135,29 @@ pub struct GaugeAnswer {
     pub number: u32,
     pub place: u32,
     pub value: f64,
+}
+
+impl From<Gauged> for GaugeAnswer {
+    ghost from_gives = { λ gauged answer. Gauges (gauge_answer (told gauged)) answer };
+
+    fn from(gauged: Gauged) -> GaugeAnswer {
+        match gauged {
+            Gauged::Value(value) => GaugeAnswer {
+                number: 0,
+                place: 0,
+                value,
+            },
+            Gauged::Refused {
+                number,
+                place,
+                reading,
+            } => GaugeAnswer {
+                number,
+                place,
+                value: reading,
+            },
+        }
+    }
 }
 
 pub fn glaukemis_gauge(
@@ -177,22 +170,5 @@ pub fn glaukemis_gauge(
 ) -> GaugeAnswer
     ensures { Gauges (gauge_answer (gauge_of (given m n matrix.now moduli.now) (lent_readings readings.now) group)) result }
 {
-    let set = readings::gather(readings);
-    let r = gauges::gauge(m, n, matrix, moduli, set, group);
-    match r {
-        Gauged::Value(x) => GaugeAnswer {
-            number: 0,
-            place: 0,
-            value: x,
-        },
-        Gauged::Refused {
-            number,
-            place,
-            reading,
-        } => GaugeAnswer {
-            number: number,
-            place: place,
-            value: reading,
-        },
-    }
+    gauges::gauge(m, n, matrix, moduli, readings::gather(readings), group).into()
 }

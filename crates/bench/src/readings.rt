@@ -7,20 +7,11 @@ use gauges::Readings;
 pub fn gather(lent: &[f64]) -> Readings
     ensures { Gathered lent.now result.values result.count }
 {
-    let mut values: [f64; 16] = [0.0; 16];
-    let mut j: usize = 0;
-    while j < lent.len() {
-        if 16 <= j {
-            return Readings {
-                values: values,
-                count: 17,
-            };
-        }
-        values[j] = lent[j];
-        j += 1;
-    }
+    let kept = lent.len().min(16);
+    let mut values = [0.0; 16];
+    values[..kept].copy_from_slice(&lent[..kept]);
     Readings {
-        values: values,
-        count: j as u32,
+        values,
+        count: lent.len().min(17) as u32,
     }
 }

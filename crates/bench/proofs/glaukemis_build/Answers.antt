@@ -1,76 +1,59 @@
 -- What it hears of the bytes and hands on is a call of scaling::build, and proofs/BuildCall does the rest.
-use Rattle.std.proofs.Common.{pos, take, drop, arith, refl, ◌∙◌}
-use lib.ListN.{replicate}
-use Rattle.bench.proofs.Inputs.{decoded_reads}
-use Rattle.bench.proofs.Outputs.{prefix_lent, whole_length, written_is}
+use Rattle.std.proofs.Common.{length, ap, arith, ◌∙◌}
+use Rattle.bench.proofs.Outputs.{refill_same, written_is}
 use Rattle.bench.proofs.BuildCall.{Called, refusal, success}
 use Rattle.bench.proofs.glaukemis_build.Goals as goal
-use Rattle.bench.proofs.glaukemis_build.Goals.{After-build-r}
+use Rattle.bench.proofs.glaukemis_build.Goals.{in-Ok, in_default, After-build-built}
 
 -- both inputs read, the room of each output known, and scaling::build has answered
-called : (c : After-build-r) → Called c.args.m c.args.n c.args.matrix.now c.args.moduli.now c.args.h.now c.args.v.now c.args.w.now
-    (take c.decode-entries.result c.decode-entries.new.out) (take c.decode-rows.result c.decode-rows.new.out)
-    (take c.room-i.result (replicate 192 (pos 0))) (take c.room-j.result (replicate 576 (pos 0))) (take c.room-k.result (replicate 576 (pos 0)))
-    c.build-r.result c.build-r.new.h c.build-r.new.v c.build-r.new.w
+called : (c : After-build-built) → Called c.args.m c.args.n c.args.matrix.now c.args.moduli.now c.args.h.now c.args.v.now c.args.w.now
+    c.deref.result.now c.deref-2.result.now c.deref_mut.result.now c.deref_mut-2.result.now c.deref_mut-3.result.now
+    c.build-built.result c.build-built.new.h c.build-built.new.v c.build-built.new.w
 called c = record {
-  reads-matrix = decoded_reads c.decode-entries.ensures refl;
-  reads-moduli = decoded_reads c.decode-rows.ensures refl;
-  lent-h = prefix_lent _ 192 _ (replicate 192 (pos 0)) (omega arith) c.room-i.ensures refl;
-  lent-v = prefix_lent _ 576 _ (replicate 576 (pos 0)) (omega arith) c.room-j.ensures refl;
-  lent-w = prefix_lent _ 576 _ (replicate 576 (pos 0)) (omega arith) c.room-k.ensures refl;
-  builds = c.build-r.ensures;
+  reads-matrix = rw c.deref.ensures.0 c.decode-entries.ensures;
+  reads-moduli = rw c.deref-2.ensures.0 c.decode-rows.ensures;
+  lent-h = ap length c.deref_mut.ensures.value ∙ c.room-x.ensures;
+  lent-v = ap length c.deref_mut-2.ensures.value ∙ c.room-y.ensures;
+  lent-w = ap length c.deref_mut-3.ensures.value ∙ c.room-z.ensures;
+  builds = c.build-built.ensures;
 }
 
-pub returns-then-number-ne0 : goal.returns-then-number-ne0
-returns-then-number-ne0 c =
-    let K = called (goal.at.returns-then-number-ne0 c).After-build-r in
-    refusal K c.if-number-ne0.true
-
 pub overflow_mul-m : goal.overflow_mul-m
-overflow_mul-m c =
-    let K = called (goal.at.overflow_mul-m c).After-build-r in
-    omega (arith, (success K c.if-number-ne0.false).written-h.fits)
+overflow_mul-m c = omega (arith, (success (called (goal.at.overflow_mul-m c).After-build-built) c.in-Ok.is).written-h.fits)
 
-pub encode-requires : goal.encode-requires
-encode-requires c =
-    let K = called (goal.at.encode-requires c).After-build-r in
-    let T = (success K c.if-number-ne0.false).written-h in
-    (omega (arith, whole_length 192 c.room-i.result (replicate 192 (pos 0)) c.build-r.new.h refl c.build-r.auto.h, T.fits), T.room)
+pub slice_bounds-encode-end : goal.slice_bounds-encode-end
+slice_bounds-encode-end c =
+    let T = success (called (goal.at.slice_bounds-encode-end c).After-build-built) c.in-Ok.is in
+    rw (refill_same c.deref_mut.ensures.value c.build-built.auto.h c.deref-in-Ok.ensures.0) T.written-h.long
 
 pub overflow_mul-cols : goal.overflow_mul-cols
-overflow_mul-cols c =
-    let K = called (goal.at.overflow_mul-cols c).After-build-r in
-    omega (arith, (success K c.if-number-ne0.false).written-v.fits)
+overflow_mul-cols c = omega (arith, (success (called (goal.at.overflow_mul-cols c).After-build-built) c.in-Ok.is).written-v.fits)
 
-pub encode-requires-2 : goal.encode-requires-2
-encode-requires-2 c =
-    let K = called (goal.at.encode-requires-2 c).After-build-r in
-    let T = (success K c.if-number-ne0.false).written-v in
-    (omega (arith, whole_length 576 c.room-j.result (replicate 576 (pos 0)) c.build-r.new.v refl c.build-r.auto.v, T.fits), T.room)
+pub slice_bounds-encode-end-in-Ok : goal.slice_bounds-encode-end-in-Ok
+slice_bounds-encode-end-in-Ok c =
+    let T = success (called (goal.at.slice_bounds-encode-end-in-Ok c).After-build-built) c.in-Ok.is in
+    rw (refill_same c.deref_mut-2.ensures.value c.build-built.auto.v c.deref-in-Ok-2.ensures.0) T.written-v.long
 
-pub overflow_mul-cols-2 : goal.overflow_mul-cols-2
-overflow_mul-cols-2 c =
-    let K = called (goal.at.overflow_mul-cols-2 c).After-build-r in
-    omega (arith, (success K c.if-number-ne0.false).written-w.fits)
+pub overflow_mul-cols-in-Ok : goal.overflow_mul-cols-in-Ok
+overflow_mul-cols-in-Ok c = omega (arith, (success (called (goal.at.overflow_mul-cols-in-Ok c).After-build-built) c.in-Ok.is).written-w.fits)
 
-pub encode-requires-3 : goal.encode-requires-3
-encode-requires-3 c =
-    let K = called (goal.at.encode-requires-3 c).After-build-r in
-    let T = (success K c.if-number-ne0.false).written-w in
-    (omega (arith, whole_length 576 c.room-k.result (replicate 576 (pos 0)) c.build-r.new.w refl c.build-r.auto.w, T.fits), T.room)
+pub slice_bounds-encode-end-in-Ok-2 : goal.slice_bounds-encode-end-in-Ok-2
+slice_bounds-encode-end-in-Ok-2 c =
+    let T = success (called (goal.at.slice_bounds-encode-end-in-Ok-2 c).After-build-built) c.in-Ok.is in
+    rw (refill_same c.deref_mut-3.ensures.value c.build-built.auto.w c.deref-in-Ok-3.ensures.0) T.written-w.long
 
 pub returns : goal.returns
 returns c =
-    let K = called (goal.at.returns c).After-build-r in
-    let T = success K c.if-number-ne0.false in
-    let B = T.builds in
-    record {
-      number = B.number;
-      place = B.place;
-      rank = B.rank;
-      moduli = B.moduli;
-      steps = B.steps;
-      h = written_is T.written-h (drop c.room-i.result (replicate 192 (pos 0))) c.encode.ensures ∙ B.h;
-      v = written_is T.written-v (drop c.room-j.result (replicate 576 (pos 0))) c.encode-2.ensures ∙ B.v;
-      w = written_is T.written-w (drop c.room-k.result (replicate 576 (pos 0))) c.encode-3.ensures ∙ B.w;
-    }
+    let K = called (goal.at.returns c).After-build-built in
+    elim c.match-built.branch [
+      | in-Ok w ↦
+          let T = success K w.in-Ok.is in
+          let x = refill_same c.deref_mut.ensures.value c.build-built.auto.h w.deref-in-Ok.ensures.0 in
+          let h = w.h-is ∙ written_is c.args.h.now T.written-h x w.encode.ensures in
+          let y = refill_same c.deref_mut-2.ensures.value c.build-built.auto.v w.deref-in-Ok-2.ensures.0 in
+          let v = w.v-is ∙ written_is c.args.v.now T.written-v y w.encode-in-Ok.ensures in
+          let z = refill_same c.deref_mut-3.ensures.value c.build-built.auto.w w.deref-in-Ok-3.ensures.0 in
+          let w₁ = w.w-is ∙ written_is c.args.w.now T.written-w z w.encode-in-Ok-2.ensures in
+          rw (c.into.ensures, w.built-is, h, v, w₁) T.builds
+      | in_default w ↦ rw (c.into.ensures, w.built-is, w.h-is, w.v-is, w.w-is) (refusal K w.in_default.is)
+    ]

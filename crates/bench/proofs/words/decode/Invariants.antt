@@ -1,10 +1,7 @@
--- The first i places hold the first i numbers of the bytes.
-use Rattle.std.proofs.Common.{◌-◌, ◌≡◌, ◌≤◌, take}
-use Rattle.rules.specs.Bytes.{longs}
+-- The numbers so far are those of the words so far.
+use Rattle.std.proofs.Common.{◌≡◌, map, take}
+use Rattle.rules.specs.Bytes.{long}
 use Rattle.bench.proofs.words.decode.Given as goal
 
-abbrev pub invariant-loop-i : goal.invariant-loop-i
-invariant-loop-i l = (l.i ≤ l.count) × (take l.i l.out ≡ longs l.i l.s)
-
-abbrev pub decreases-loop-i : goal.decreases-loop-i
-decreases-loop-i l = l.count - l.i
+abbrev pub invariant-loop-a : goal.invariant-loop-a
+invariant-loop-a g l = l.numbers.items ≡ map long (take l.a-index l.words)
