@@ -27,13 +27,12 @@ use Rattle.theory.proofs.Sequence.{Steps, steps_counted}
 use Rattle.theory.proofs.Sequence as sequence
 use Rattle.theory.proofs.Unique.{Alike, normal_unique}
 use Rattle.theory.proofs.Translation.{translated-back, translated-only, of_groups}
-use Rattle.frames.specs.declared.Text.{Text}
 use Rattle.frames.specs.Output.{Shows}
 use Rattle.demands.proofs.NormalForms.{Accepted}
 use Rattle.demands.proofs.Formulas.{back_same}
 use Rattle.demands.proofs.InputLines.{line_at, m_said, n_said, WellFormedInput, problem_said, formula_said}
 use Rattle.demands.proofs.InputSays.{terms_said, coefficient_said, term_said}
-use Rattle.demands.proofs.Program.{shown, Answers, program-answered}
+use Rattle.demands.proofs.Program.{Text, shown, Answers, program-answered}
 use Rattle.demands.proofs.OutputLines.{numbers_on}
 use Rattle.demands.proofs.ReadBack.{SolutionLines}
 use Rattle.demands.proofs.Printout.{Taken, refusal-printed, solution_printed, solution_exactly}

@@ -18,7 +18,6 @@ use Rattle.rules.specs.Calls.{Verdict, taken, refused}
 use Rattle.rules.specs.Frames.{TextLine, lines_of, frame_of, term_coefficient, program, printed, answered}
 use Rattle.theory.proofs.Accepted.{AllPass}
 use Rattle.formulas.specs.FormulaPromises.{RoomToTranslate}
-use Rattle.frames.specs.declared.Text.{Text}
 use Rattle.frames.specs.Output.{Shows}
 use Rattle.demands.proofs.Order.{DecidedBy, translate_not_0}
 use Rattle.demands.proofs.Refusals.{Ordered, ordered}
@@ -27,7 +26,7 @@ use Rattle.demands.proofs.NormalForms.{Accepted}
 use Rattle.demands.proofs.Formulas.{Translatable, all_pass_exactly}
 use Rattle.demands.proofs.InputLines.{line_at, m_said, GoodLine, BadLine, missing, not_of_form, good-not-bad, FirstBadLine, SizesRefused, WellFormedInput, problem_said, formula_said, bad-not-good, sizes-not-good}
 use Rattle.demands.proofs.InputSays.{coefficient_said}
-use Rattle.demands.proofs.Program.{shown, checks_of_program, Answers, refused_10, refused_1, refused_by_check, accepted, checks_of_translate_lem, program-answered, refusal_limited}
+use Rattle.demands.proofs.Program.{Text, shown, checks_of_program, Answers, refused_10, refused_1, refused_by_check, accepted, checks_of_translate_lem, program-answered, refusal_limited}
 use Rattle.demands.proofs.ReadBack.{OneRefusal, refusal-read-back, one_refusal-read, SolutionLines, solution_read-back}
 
 -- ---- which good inputs are taken

@@ -4,15 +4,14 @@
 -- three kinds of input: a line is bad or missing, the sizes are out of range, or every line is of its form. In the third kind the problem and the
 -- formula that the lines say are judged by the checks of `translate` in their order. Its number 2 cannot come, since the lengths fit
 -- (InputSays.lengths-fit), nor can 3, since the program lends itself room enough, nor can 1 once more.
-use mathlib.Core.Path.{◌≡◌, refl, ◌∙◌, ap, ap₂}
+use mathlib.Core.Path.{◌≡◌, refl, ap, ap₂}
 use mathlib.Core.Logic.{◌⊎◌, inl, inr}
 use mathlib.Core.Bool.{true}
 use mathlib.Core.List.{List}
 use Prim.Native.Nat.{ℕ, zero, suc, ◌≤◌, ◌<◌}
 use native.Mathlib.Nat.{mul-le-mul}
 use native.Mathlib.Omega.{arith}
-use lib.ListN.{length, take}
-use lib.Seq.{take_at}
+use lib.ListN.{length}
 use lib.IntN.{ℤ}
 use Rattle.rules.specs.Search.{none, found}
 use Rattle.rules.specs.Problem.{Problem}
@@ -23,7 +22,7 @@ use Rattle.rules.specs.Calls.{sizes_check, moduli_check, entries_check, exponent
 use Rattle.rules.specs.Frames.{TextLine, lines_of, Reading, answered, answer_to, program}
 use Rattle.theory.proofs.Accepted.{AllPass}
 use Rattle.formulas.specs.FormulaPromises.{RoomToTranslate}
-use Rattle.frames.specs.declared.Text.{Text}
+use Rattle.arrayvec.specs.ArrayVec.{ArrayVec}
 use Rattle.frames.specs.Output.{Shows}
 use Rattle.demands.proofs.Order.{DecidedBy, EachFault, decider_has, one_refusal, not-taken-and-refused, taken_exactly, refused_exactly, translate_checks, term-number, term-decides_exactly}
 use Rattle.demands.proofs.Limits.{translate_room_exactly}
@@ -35,11 +34,15 @@ use Rattle.demands.proofs.InputRead.{reading_is}
 use Rattle.demands.proofs.InputSays.{lengths-fit}
 
 -- ---- what was printed
+-- the Text of `frames`, as a proof sees it
+abbrev pub Text : Type 0
+Text = ArrayVec ℕ
+
 abbrev pub shown : Text → List ℕ
-shown r = take r.len r.bytes
+shown r = r.items
 
 pub shown_is : {r : Text} {text : List ℕ} → Shows r text → shown r ≡ text
-shown_is {r} {text} S = ap₂ take S.len_is S.bytes_are ∙ take_at text _ (length text) refl
+shown_is S = S.items_are
 
 -- ---- the four answers
 -- the checks that the problem and the formula of a good input meet, with the right lengths and room enough
