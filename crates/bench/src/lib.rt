@@ -20,7 +20,8 @@ use gauges::Gauged;
 use scaling::BuildAnswer;
 use words::{decode, encode, room};
 
-// A wrong length is handed on as one more than any right one, and a lent output without room as an empty one.
+// A wrong length is handed on as one more than any right one, and a lent output without room as an empty one: an Option would have to be judged here,
+// and the order of the checks is the library's (R3.2). `as` between u32 and usize: std has no From for them, and TryFrom would be a step that can fail; each is proved to lose nothing.
 pub fn glaukemis_build(
     m: u32,
     n: u32,

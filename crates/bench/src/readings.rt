@@ -3,7 +3,8 @@ ghost use Rattle.bench.specs.Readings.{Gathered};
 
 use gauges::Readings;
 
-// The set of readings that was lent. More than sixteen are counted as seventeen, which is the n of no problem that is taken.
+// The set of readings that was lent. More than sixteen are counted as seventeen, which is the n of no problem that is taken:
+// R13.6 has a count and no Option. `as`: it fits, and TryFrom would be a step that can fail.
 pub fn gather(lent: &[f64]) -> Readings
     ensures { Gathered lent.now result.values result.count }
 {

@@ -1,5 +1,5 @@
 // What C calls: each has the name and the promise of the call of `bench` that it makes. A slice crosses as a pointer and then its length.
-// Parameters that travel together stay apart here: the C interface.
+// Parameters that travel together stay apart here, and each call stands here and in `bench`: the C interface (R13.5 names both crates).
 #![tactic(auto)]
 
 ghost use Rattle.rules.specs.Bench.{bench_build_of, bench_translate_of};

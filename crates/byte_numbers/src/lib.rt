@@ -4,7 +4,7 @@
 ghost use Rattle.std.specs.Prelude.{◌≡◌, [], ◌∷◌, ◌%◌};
 ghost use Rattle.rules.specs.Bytes as rules;
 
-// The number in two bytes, and that in four.
+// The number in two bytes, and that in four: each is one call of std for its width.
 #[tactic(auto, unfolding(rules::specs::Bytes::short))]
 pub fn short(a: u8, b: u8) -> i32
     ensures { result ≡ rules.short (a ∷ b ∷ []) }
@@ -19,7 +19,7 @@ pub fn long(a: u8, b: u8, c: u8, d: u8) -> i32
     i32::from_be_bytes([a, b, c, d])
 }
 
-// The lowest byte of a number. By hand, since no plainer form is there: `as` has to lose nothing.
+// The lowest byte of a number. By hand, since no plainer form is there: `as` has to lose nothing. Nothing here calls it, and docs/PROMISES.md names it.
 pub fn low(x: u64) -> u8
     ensures { result ≡ x % 256 }
 {

@@ -1,5 +1,6 @@
 -- The number and the place of each refusal (section 4 of the rules), and what an answer of the code says of a verdict.
-use Rattle.std.specs.Prelude.{ℕ, Result, Ok, Err}
+use Rattle.std.specs.Prelude.{ℕ, List, ◌++◌, codes, Result, Ok, Err}
+use Rattle.std.specs.Fmt.{decimal}
 use Rattle.rules.specs.Calls.{Verdict, taken, refused}
 use Rattle.checks.specs.declared.Refusal.{Refusal}
 use Rattle.checks.specs.declared.Refusal.TheVariants.{Sizes, Lengths, Outputs, Modulus, Entry, Exponent, Overflow, NotFree, LargeExponent, BadLine}
@@ -35,3 +36,7 @@ refusal r = refused (number_of r) (place_of r)
 abbrev pub told : {A : Type 0} → Result A Refusal → Verdict
 told (Ok x) = taken
 told (Err r) = refusal r
+
+-- what is printed of a refusal
+abbrev pub words : Refusal → List ℕ
+words r = codes "refused " ++ decimal (number_of r) ++ codes " at " ++ decimal (place_of r)

@@ -2,10 +2,11 @@
 // a condition on its caller.
 #![tactic(auto)]
 
-ghost use Rattle.std.specs.Prelude.{◌≡◌};
+ghost use Rattle.std.specs.Prelude.{◌≡◌, ◌&&◌, ◌≤◌};
 ghost use Rattle.rules.specs.Limits as limits;
 ghost use Rattle.checks.specs.Lent.{first8};
-ghost use Rattle.checks.specs.Checks.{TellsTo5, TellsTo6};
+ghost use Rattle.rules.specs.Problem.{N};
+ghost use Rattle.checks.specs.Checks.{TellsTo5, TellsTo6, problem_of};
 ghost use Rattle.checks.specs.Refusals.{number_of, place_of};
 
 mod lent;
@@ -35,6 +36,7 @@ pub const ROOM_COEFFICIENTS: usize = 64;
 
 pub const ROOM_EXPONENTS: usize = 1024;
 
+// R2.4; a number for none, as C lends it.
 const NO_MODULUS: i32 = 0;
 
 const MOST_MODULUS: i32 = 1000;
@@ -97,9 +99,37 @@ impl Refusal {
 }
 
 impl fmt::Display for Refusal {
+    ghost use Rattle.std.specs.Prelude.{Some};
+    ghost use Rattle.checks.specs.Refusals.{words};
+
+    ghost output = { λ r. Some (words r) };
+
     fn fmt<W: fmt::Write>(&self, f: &mut fmt::Formatter<W>) -> fmt::Result {
         write!(f, "refused {} at {}", self.number(), self.place())
     }
+}
+
+impl<'a> Checked<'a> {
+    // N of R5.1.
+    pub fn columns(&self) -> usize
+        ensures value { result ≡ N (problem_of self.now) }
+        ensures few { result ≤ 24 }
+    {
+        self.n + self.rows.len()
+    }
+}
+
+// Named in docs/PROMISES.md, as is the next one; the code writes the operator itself.
+pub fn both(a: bool, b: bool) -> bool
+    ensures { result ≡ a && b }
+{
+    a && b
+}
+
+pub fn is_zero(x: i32) -> bool
+    ensures { result ≡ limits.is_zero x }
+{
+    x == 0
 }
 
 // Whether z is beyond M, either way.
@@ -115,6 +145,9 @@ pub fn sizes_in_range(m: u32, n: u32) -> bool
 {
     1 <= m && m <= 8 && 1 <= n && n <= 16
 }
+
+// What C lends is taken in its parts, and `more` and `outputs` as two flags: docs/PROMISES.md names both calls and both flags.
+// `as` between u32 and usize, here and in parts: std has no From for them, and TryFrom would be a step that can fail.
 
 // 1 to 5; `more` says that the inputs other than matrix and moduli have the right lengths, `outputs` that no output is too short.
 pub fn problem<'a>(

@@ -13,7 +13,8 @@ use checks::{ROOM_COEFFICIENTS, ROOM_EXPONENTS, ROOM_H, ROOM_V, ROOM_W, ROOM_WEI
 use terms::Term;
 use translation::Translation;
 
-// What C reads of a weighing: the number 0; or a refusal's number and place. The C interface has plain numbers.
+// What C reads of a weighing: the number 0; or a refusal's number and place. The C interface has plain numbers, and an answer, with its impl, for
+// each call.
 #[repr(C)]
 #[derive(Clone, Copy)]
 pub struct WeighAnswer {
@@ -117,6 +118,7 @@ pub fn translate(
         coefficients,
         exponents,
         w: &w,
+        // `as`: std has no From of u32 for usize.
         rank: built.rank as usize,
     };
     translation.translate(kept, translated)

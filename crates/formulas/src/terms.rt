@@ -64,6 +64,7 @@ impl<'a> Term<'a> {
         ensures { Weight (problem_at self.now) (v_at self.now) i result }
     {
         let x = self.row_times(i);
+        // 0 is no modulus (R2.4), as C lends it.
         let p = self.problem.moduli[i];
         if p == 0 { x } else { x % i64::from(p) }
     }

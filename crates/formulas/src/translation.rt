@@ -1,4 +1,5 @@
 // The translation of a formula, once its problem has passed the checks and been built.
+// `as u32`: what is told fits, and TryFrom would be a step that can fail.
 ghost use Rattle.std.specs.Prelude.{◌≡◌, ◌*◌, ◌<◌, ◌≤◌, length, take, drop, false};
 ghost use Rattle.rules.specs.Problem.{N};
 ghost use Rattle.rules.specs.Stages.{run};
@@ -29,19 +30,11 @@ pub struct Translation<'a> {
 impl<'a> Translation<'a> {
     ghost use Rattle.formulas.specs.Translation.{problem_in, formula_in, v_in, groups_in, exponents_in};
 
-    // N of R5.1.
-    fn columns(&self) -> usize
-        ensures is { result ≡ N (problem_in self.now) }
-        ensures few { result ≤ 24 }
-    {
-        self.problem.n + self.problem.rows.len()
-    }
-
     // The number of groups.
     fn groups(&self) -> usize
         ensures { result ≡ groups_in self.now }
     {
-        self.columns() - self.rank
+        self.problem.columns() - self.rank
     }
 
     // The exponents of term t.
@@ -61,7 +54,7 @@ impl<'a> Translation<'a> {
         ensures { result.items ≡ exponents_in self.now t }
     {
         let e = self.term(t).k_then_v();
-        let n = self.columns();
+        let n = self.problem.columns();
         let mut x = ArrayVec::new();
         for i in self.rank..n {
             x.push(dot(&self.w[i * n..(i + 1) * n], &e));
@@ -117,6 +110,7 @@ impl<'a> Translation<'a> {
         let d = self.groups();
         let terms = self.coefficients.len();
         kept[..terms].copy_from_slice(self.coefficients);
+        // By t and not by chunks: there may be no groups.
         for t in 0..terms {
             self.write_term(t, &mut out[t * d..(t + 1) * d]);
         }

@@ -4,7 +4,8 @@ ghost use Rattle.frames.specs.Sized.{Sized};
 use arrayvec::ArrayVec;
 use checks::{MOST_TERMS, ROOM_EXPONENTS};
 
-// A problem, and a formula of its quantities.
+// A problem, and a formula of its quantities. m stands beside the moduli, which are as many, as in the definition's Problem; the lists lie flat, as
+// the calls take them.
 #[derive(Drop)]
 pub struct Input {
     pub m: usize,

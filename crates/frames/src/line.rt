@@ -7,7 +7,7 @@ use arrayvec::ArrayVec;
 // The longest line that is read, a term of 16 quantities, has so many bytes.
 pub const LONGEST: usize = 37;
 
-// What a line tells, by its first byte.
+// What a line tells, by its first byte; `as` is how the language reads it.
 #[derive(Clone, Copy)]
 pub enum Kind {
     Sizes = 1,

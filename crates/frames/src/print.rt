@@ -1,4 +1,4 @@
-// Printing the program's lines: each function appends to a text that has room.
+// Printing the program's lines: each function appends to a text that has room. Each asks that of its own text: a type could not know what is to come.
 ghost use Rattle.std.specs.Prelude.{◌≡◌, [], ◌∷◌, ◌++◌, ◌*◌, ◌<◌, ◌≤◌, length};
 ghost use Rattle.rules.specs.Bytes.{bytes_of};
 ghost use Rattle.rules.specs.Frames.{digit_of, term_lines, refusal_line};
@@ -11,7 +11,7 @@ use byte_numbers::four_bytes;
 use checks::Refusal;
 use scaling::Built;
 
-// What a printed line tells, which its first byte says.
+// What a printed line tells, which its first byte says; `as` is how the language reads it.
 #[derive(Clone, Copy)]
 pub enum Kind {
     Sizes = 0x81,

@@ -22,7 +22,8 @@ fn push_shorts<const N: usize>(list: &mut ArrayVec<i32, N>, bytes: &[u8])
     }
 }
 
-// What the input's lines say.
+// What the input's lines say. `as u32`: a line's number fits, and TryFrom would be a step that can fail. `usize::from` of a byte was tried in place of
+// `as usize`, and the proof did not close.
 pub fn read(text: &[u8]) -> Result<Input, Refusal>
     ensures { InputHolds result (reading_of (lines_of text.now)) }
 {
@@ -44,6 +45,7 @@ pub fn read(text: &[u8]) -> Result<Input, Refusal>
     }
     let mut coefficients = ArrayVec::new();
     let mut exponents = ArrayVec::new();
+    // No `for`: each line leaves the rest, and there is no iterator of lines.
     while !rest.is_empty() {
         let bad = Refusal::BadLine((1 + m + coefficients.len()) as u32);
         if coefficients.is_full() {

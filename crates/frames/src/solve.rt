@@ -22,7 +22,8 @@ pub fn refused(r: Refusal) -> Text
     out
 }
 
-// All lines of a solution, which the first entries of the arrays are.
+// All lines of a solution, which the first entries of the arrays are: what two calls wrote, for which a struct would be made once.
+// `as` between u32 and usize: std has no From for them, and TryFrom would be a step that can fail; each is proved to lose nothing.
 fn solution(
     x: &Input,
     built: Built,

@@ -27,6 +27,7 @@ impl Groups<'_> {
         if self.count <= group {
             return None;
         }
+        // `as`: std has no From of u32 for usize. By j: the exponents stand a stride apart.
         let at = self.first + group as usize;
         let mut exponents = ArrayVec::new();
         for j in 0..self.n {

@@ -75,6 +75,7 @@ fn evaluate(groups: &Groups, readings: &[f64], group: u32) -> Result<f64, Fault>
     ensures { told_of result ≡ evaluate_of groups.now.n groups.now.count
         (column groups.now.v.now groups.now.first groups.now.cols group) (read readings.now) group }
 {
+    // `as`: it fits, and TryFrom would be a step that can fail.
     if let Some(k) = values::first_bad(readings) {
         return Err(Fault::Reading {
             place: k as u32,
@@ -94,7 +95,7 @@ fn evaluate(groups: &Groups, readings: &[f64], group: u32) -> Result<f64, Fault>
     Ok(value)
 }
 
-// What `gauge` answers.
+// What `gauge` answers. Both take the problem in its parts, as C lends it. `as` between u32 and usize: std has no From for them, and TryFrom would be a step that can fail.
 fn work_out(
     m: u32,
     n: u32,

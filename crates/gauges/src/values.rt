@@ -23,7 +23,7 @@ pub fn is_out(x: f64) -> bool
     x == 0.0 || !x.is_finite()
 }
 
-// Whether e is from -64 to 64.
+// Whether e is from -64 to 64 (R22.8).
 fn in_range(e: i32) -> bool
     ensures { result ≡ power_in_range e }
 {

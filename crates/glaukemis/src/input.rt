@@ -25,6 +25,7 @@ pub fn read<R: Read>(input: &mut R, buf: &mut [u8]) -> Held
     ensures given { Given (R.remaining input.old) (R.remaining input.new) buf.new result }
 {
     let mut len = 0;
+    // No `for`: each read says how far it came.
     while len < buf.len() {
         match input.read(&mut buf[len..]) {
             Ok(0) => return Held {

@@ -113,6 +113,8 @@ const ASKED: [&'static [Ask]; 13] = [
     ],
 ];
 
+// `as` below: std has no From of u32 for usize.
+
 // The first `width` numbers, in a line behind their name.
 fn line(rt: &impl Print, name: &str, xs: &[i32], width: usize) -> io::Result<()> {
     print!(rt; "{name}")?;

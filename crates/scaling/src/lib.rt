@@ -25,7 +25,8 @@ pub struct Built {
     pub steps: u64,
 }
 
-// A build's answer as C reads it: the number 0 with what it came to; or a refusal's number and place.
+// A build's answer as C reads it: the number 0 with what it came to; or a refusal's number and place. The C interface has plain numbers,
+// and an answer, with its impl, for each call.
 #[repr(C)]
 #[derive(Clone, Copy)]
 pub struct BuildAnswer {
@@ -75,6 +76,7 @@ fn build_checked(
     h[..area].copy_from_slice(&work.t[..area]);
     v[..square].copy_from_slice(&work.v[..square]);
     w[..square].copy_from_slice(&work.w[..square]);
+    // `as`: both fit, and TryFrom would be a step that can fail.
     Ok(Built {
         rank: rank as u32,
         moduli: p.rows.len() as u32,

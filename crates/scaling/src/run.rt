@@ -9,14 +9,6 @@ use crate::numbers::opposite;
 use crate::work::{Table, Work};
 use checks::{Checked, ROOM_H, ROOM_V, Refusal};
 
-// N of R5.1.
-fn columns(p: &Checked<'_>) -> usize
-    ensures value { result ≡ N (problem_of p.now) }
-    ensures few { result ≤ 24 }
-{
-    p.n + p.rows.len()
-}
-
 // The entry of C in row i and column c.
 fn entry_of_c(p: &Checked<'_>, i: usize, c: usize) -> i32
     requires { InC (problem_of p.now) i c }
@@ -32,7 +24,8 @@ fn entry_of_c(p: &Checked<'_>, i: usize, c: usize) -> i32
 fn fill_c(t: &mut [i32; ROOM_H], p: &Checked<'_>)
     ensures { HoldsC (problem_of p.now) t.new t.old }
 {
-    let cols = columns(p);
+    let cols = p.columns();
+    // By division: the library says nothing of what a slice is after chunks_exact_mut.
     for (k, entry) in t[..p.moduli.len() * cols].iter_mut().enumerate() {
         *entry = entry_of_c(p, k / cols, k % cols);
     }
@@ -51,7 +44,7 @@ fn fill_identity(a: &mut [i32; ROOM_V], n: usize)
 pub fn start(p: &Checked<'_>) -> Work
     ensures { Starts (problem_of p.now) result }
 {
-    let cols = columns(p);
+    let cols = p.columns();
     let mut t = [0; ROOM_H];
     fill_c(&mut t, p);
     let mut v = [0; ROOM_V];

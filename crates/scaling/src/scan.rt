@@ -1,4 +1,6 @@
 // The searches in a row, and in a column of a table that stands row after row.
+// `lo` and `hi` as the definitions have them: a Range would be taken apart in each contract. `filled` and `other` are a `find` each, and one function
+// with an Option for p is no plainer; `quotient` and `floor_quotient` round differently (R7.8, R7.9).
 ghost use Rattle.std.specs.Prelude.{◌≡◌, cond, ◌<◌, ◌≤◌, ◌*◌, length, neg_ℤ, pos};
 ghost use Rattle.std.specs.Int.Signed.{quot_z, lt_z};
 ghost use Rattle.whole.specs.Division.{floor_z};
@@ -63,7 +65,7 @@ pub fn floor_quotient(row: &[i32], b: usize, c: usize) -> i64
     -floor(row[c], row[b])
 }
 
-// Whether the entry of column b is negative.
+// Whether the entry of column b is negative: a function, so that a fact on whole numbers and not on bits goes into the proof of a row.
 pub fn negative(row: &[i32], b: usize) -> bool
     requires { b < length row.now }
     ensures { result ≡ lt_z (nth row.now b) (pos 0) }

@@ -1,5 +1,6 @@
 // Loops over the entries of a list that stand a stride apart: a column of T or V, or a row of W.
-// An index, a stride and a count stay three parameters: a struct for them would be made anew at each call, of other numbers.
+// An index, a stride and a count stay three parameters: a struct for them would be made anew at each call, of other
+// numbers; and so each asks `Within`.
 ghost use Rattle.std.specs.Prelude.{◌≡◌, ◌<◌, ◌≤◌, ◌*◌, length, nat_abs};
 ghost use Rattle.scaling.specs.Strided.{Within, Added, swap_f, neg_f, rotate_f};
 

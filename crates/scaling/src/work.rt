@@ -8,7 +8,8 @@ use crate::strided::{add, negate, rotate, swap};
 use checks::{ROOM_H, ROOM_V};
 
 // T is m by cols, V and W are cols by cols, row after row without gaps; cols is N of R5.1.
-// The flag `over` is part of the state by R13.2, and so are T, V, W and the count.
+// The flag `over` is part of the state by R13.2, and so are T, V, W and the count; so each step asks by a clause that the flag is down.
+// The tables lie flat, as C lends the outputs that they are copied to.
 #[derive(Drop)]
 pub struct Work {
     pub m: usize,
@@ -21,7 +22,7 @@ pub struct Work {
     pub ghost sound: { Sound m cols t v w over },
 }
 
-// The table that a stage looks at: V in stage 2, else T.
+// The table that a stage looks at: T in stage 1, V in stages 2 and 3.
 #[derive(Clone, Copy)]
 pub enum Table {
     T,
@@ -145,6 +146,7 @@ impl Work {
     }
 
     // (A), once and then again, until one column is left or a value is beyond M: q times column p is added to column j.
+    // The table, the row and its columns lo to a stay parameters, as the definitions have them: a struct would be made anew for each row.
     fn eliminate(
         mut self,
         which: Table,
@@ -181,6 +183,7 @@ impl Work {
     {
         for c in lo..hi {
             let q = floor_quotient(self.row_of(which, row), b, c);
+            // By the definition's name.
             let in_range = q == 0;
             if !in_range {
                 self = self.add(b, c, q);

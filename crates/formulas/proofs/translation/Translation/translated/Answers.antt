@@ -28,7 +28,7 @@ lifted c =
 pub dot-requires : goal.dot-requires
 dot-requires c =
     let s = c.args.self.now in
-    factors s.problem.now.well_formed s.solved c.columns-n.ensures.is (v_in s c.args.t) (small s c.args.t)
+    factors s.problem.now.well_formed s.solved c.columns-n.ensures.value (v_in s c.args.t) (small s c.args.t)
     (lifted (goal.at.dot-requires c).After-deref) c.loop-i.i c.loop-i-test.true
 
 pub loop-i-preserved : goal.loop-i-preserved
@@ -39,5 +39,5 @@ loop-i-preserved c =
     let next : c.loop-i.i + 1 - s.rank ≡ g + 1 = omega arith in
     let fits : SFits w64 c.dot.result = search rules in
     rw next (tab-push g (translated P (run P) (v_in s c.args.t)) c.push.ensures.items c.loop-i.invariant (to_z-of_z fits ∙ c.dot.ensures
-    ∙ exponent_is s.problem.now.well_formed s.solved c.columns-n.ensures.is (v_in s c.args.t) (small s c.args.t)
+    ∙ exponent_is s.problem.now.well_formed s.solved c.columns-n.ensures.value (v_in s c.args.t) (small s c.args.t)
     (lifted (goal.at.loop-i-preserved c).After-deref) c.loop-i.i c.loop-i-test.true c.loop-i.auto.i))
