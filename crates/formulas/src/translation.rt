@@ -109,9 +109,9 @@ impl<'a> Translation<'a> {
     {
         let d = self.groups();
         let terms = self.coefficients.len();
-        kept[..terms].copy_from_slice(self.coefficients);
-        // By t and not by chunks: there may be no groups.
+        // By t and not by chunks: there may be no groups. A copy of the coefficients in one would need the C library's `memmove`.
         for t in 0..terms {
+            kept[t] = self.coefficients[t];
             self.write_term(t, &mut out[t * d..(t + 1) * d]);
         }
     }

@@ -114,9 +114,6 @@ module _ (xs old : List ℤ) (width by : ℕ) where
   pub rotate_f-length : (k : ℕ) → length (rotate_f xs old width by k) ≡ length xs
   rotate_f-length = writes_length rotate_f_writes
 
-  pub rotate_f-kept : (p c : ℕ) → ((k : ℕ) → k < c → p ≢ k) → nth (rotate_f xs old width by c) p ≡ nth xs p
-  rotate_f-kept = writes_kept rotate_f_writes
-
   pub rotate_f-made : (count k : ℕ) → count ≤ length xs → k < count → nth (rotate_f xs old width by count) k ≡ nth old (rotate_from width by k)
   rotate_f-made count k l h = writes_made rotate_f_writes count k h (omega arith) (λ l a. omega arith)
 

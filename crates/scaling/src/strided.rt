@@ -49,13 +49,15 @@ pub fn negate(a: &mut [i32], at: usize, stride: usize, count: usize)
     }
 }
 
-// Each of the first rows of a, width long, is turned: its entries from `by` on come before those below.
+// Each of the first rows of a, width long, is turned: its entries from `by` on come before those below. Entry by entry from a copy: `rotate_left`
+// would need the C library's `memmove`, and the archive for C needs memcpy and memset alone.
 #[tactic(auto, unfolding(crate::specs::Strided::rotate_f))]
-pub fn rotate(a: &mut [i32], rows: usize, width: usize, by: usize)
+pub fn rotate<const N: usize>(a: &mut [i32; N], rows: usize, width: usize, by: usize)
     requires { (0 < width) × (by ≤ width) × (rows * width ≤ length a.old) }
     ensures { a.new ≡ rotate_f a.old a.old width by (rows * width) }
 {
-    for k in 0..rows {
-        a[k * width..(k + 1) * width].rotate_left(by);
+    let old = *a;
+    for k in 0..rows * width {
+        a[k] = old[k / width * width + (k % width + by) % width];
     }
 }
