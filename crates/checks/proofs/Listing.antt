@@ -1,11 +1,18 @@
 -- The rows with a modulus, listed one modulus after the other.
-use Rattle.std.proofs.Common.{◌≡◌, ℕ, suc, ◌+◌, ◌<◌, ℤ, List, [], ◌∷◌, ◌++◌, Bool, true, false, length, take, refl, ap, ◌∙◌, arith}
+use Rattle.std.proofs.Common.{◌≡◌, ℕ, suc, ◌+◌, ◌<◌, ℤ, List, [], ◌∷◌, ◌++◌, Bool, true, false, length, take, replicate, get_or, set, ◌≤◌, refl, sym, ap, ◌∙◌, arith}
 use lib.IntN.{pos}
-use lib.Seq.{take-suc, length-take-le}
+use lib.Seq.{take-suc, take-length, length-take-le}
+use Rattle.std.proofs.lemmas.List.{take_more_set, length-set, get_or-take, get_or-set_other, length-take}
 use native.Mathlib.Nat.{add-zero, zero-add}
 use Rattle.whole.specs.Lists.{nth}
+use Rattle.whole.proofs.Lists.{nth-replicate}
 use Rattle.rules.specs.Limits.{is_zero}
-use Rattle.rules.specs.Problem.{modulus_rows_from}
+use Rattle.rules.specs.Problem.{modulus_rows_from, s}
+use Rattle.checks.specs.declared.lent.ModulusRows.{ModulusRows}
+use Rattle.checks.specs.declared.lent.Checked.{Checked}
+use Rattle.checks.specs.Checks.{problem_of}
+use Rattle.checks.specs.Lent.{first8}
+use Rattle.checks.specs.Moduli.{listed, ListsFirst8}
 
 -- ---- one modulus more at the end
 rows-passed : (k : ℕ) (ps : List ℤ) (p : ℤ) → is_zero p ≡ true → modulus_rows_from k (ps ++ p ∷ []) ≡ modulus_rows_from k ps
@@ -39,3 +46,45 @@ module _ (moduli : List ℤ) (i : ℕ) (h : i < length moduli) where
 pub none-listed : (moduli : List ℤ) → [] ≡ rows_to moduli 0
 unfolding modulus_rows_from
 none-listed moduli = refl
+
+-- ---- the array, once the first i moduli have been looked at
+pub record Listed (moduli : List ℤ) (i : ℕ) (q : ModulusRows) : Type 0 where
+  pub few : q.s ≤ i
+  pub long : length q.rows ≡ 8
+  pub rows : listed q ≡ rows_to moduli i
+  pub rest : (c : ℕ) → q.s ≤ c → get_or q.rows c 0 ≡ 0
+
+pub listed-none : (moduli : List ℤ) → Listed moduli 0 (record { rows = replicate 8 0; s = 0 })
+listed-none moduli = record { few = omega arith; long = refl; rows = none-listed moduli; rest = λ c _. nth-replicate 8 0 c }
+
+module _ {moduli : List ℤ} {i : ℕ} {q : ModulusRows} (l : Listed moduli i q) (h : i < length moduli) where
+  pub row_passed : is_zero (nth moduli i) ≡ true → Listed moduli (suc i) q
+  row_passed e = record { few = omega (arith, l.few); long = l.long; rows = l.rows ∙ sym (listed-passed moduli i h e); rest = l.rest }
+
+  pub row_listed : is_zero (nth moduli i) ≡ false → i < 8 → Listed moduli (suc i) (record { rows = set q.rows q.s i; s = q.s + 1 })
+  row_listed e b = record {
+    few = omega (arith, l.few);
+    long = length-set q.rows q.s i ∙ l.long;
+    rows = take_more_set q.rows q.s i (omega (arith, l.few, l.long)) ∙ ap (λ xs. xs ++ i ∷ []) l.rows ∙ sym (listed_with moduli i h e);
+    rest = λ c k. get_or-set_other q.rows q.s c i 0 (omega arith) ∙ l.rest c (omega arith);
+  }
+
+-- what the array is at the end
+pub lists_first8 : {moduli : List ℤ} {q : ModulusRows} → Listed (take 8 moduli) (length (take 8 moduli)) q → ListsFirst8 moduli q × (listed q ≡ first8 moduli)
+lists_first8 {moduli} {q} l =
+    let e : listed q ≡ first8 moduli = l.rows ∙ ap (modulus_rows_from 0) (take-length (take 8 moduli)) in
+    let f : q.s ≤ 8 = omega (arith, l.few, length-take 8 moduli) in
+    let n : length (listed q) ≡ q.s = length-take-le q.s q.rows (omega (arith, l.long)) in (
+      record {
+        long = l.long;
+        count = sym n ∙ ap length e;
+        few = f;
+        rows = λ c h. sym (get_or-take q.s q.rows c 0 h) ∙ ap (λ xs. get_or xs c 0) e;
+        rest = l.rest;
+      },
+      e,
+    )
+
+-- ---- a problem that has passed
+pub rows_counted : (p : Checked) → p.rows.s ≡ s (problem_of p)
+rows_counted p = sym (length-take-le p.rows.s p.rows.rows (omega (arith, p.rows_told.few, p.rows_told.long))) ∙ ap length p.rows_listed

@@ -2,18 +2,18 @@
 // a condition on its caller.
 #![tactic(auto)]
 
-ghost use Rattle.std.specs.Prelude.{◌≡◌, ◌&&◌, ◌≤◌};
+ghost use Rattle.std.specs.Prelude.{◌≡◌, ◌&&◌, ◌≤◌, length};
 ghost use Rattle.rules.specs.Limits as limits;
 ghost use Rattle.checks.specs.Lent.{first8};
-ghost use Rattle.rules.specs.Problem.{N};
+ghost use Rattle.checks.specs.Moduli.{ListsFirst8, listed};
+ghost use Rattle.rules.specs.Problem.{N, modulus_rows};
 ghost use Rattle.checks.specs.Checks.{TellsTo5, TellsTo6, problem_of};
 ghost use Rattle.checks.specs.Refusals.{number_of, place_of};
 
 mod lent;
 mod parts;
 
-use arrayvec::ArrayVec;
-pub use lent::Checked;
+pub use lent::{Checked, ModulusRows};
 use parts::{first_out, formula_fits, problem_fits};
 use std::fmt;
 
@@ -35,9 +35,6 @@ pub const ROOM_WEIGHTS: usize = 8;
 pub const ROOM_COEFFICIENTS: usize = 64;
 
 pub const ROOM_EXPONENTS: usize = 1024;
-
-// R2.4; a number for none, as C lends it.
-const NO_MODULUS: i32 = 0;
 
 const MOST_MODULUS: i32 = 1000;
 
@@ -115,11 +112,19 @@ impl<'a> Checked<'a> {
         ensures value { result ≡ N (problem_of self.now) }
         ensures few { result ≤ 24 }
     {
-        self.n + self.rows.len()
+        self.n + self.rows.s
+    }
+
+    // The rows with a modulus.
+    pub fn modulus_rows(&self) -> &[usize]
+        ensures value { result.now ≡ modulus_rows (problem_of self.now) }
+        ensures few { length result.now ≤ 8 }
+    {
+        &self.rows.rows[..self.rows.s]
     }
 }
 
-// Named in docs/PROMISES.md, as is the next one; the code writes the operator itself.
+// Both of two tests, of which the second is made whatever the first says.
 pub fn both(a: bool, b: bool) -> bool
     ensures { result ≡ a && b }
 {
@@ -143,7 +148,7 @@ pub fn beyond(z: i64) -> bool
 pub fn sizes_in_range(m: u32, n: u32) -> bool
     ensures { result ≡ limits.sizes_in_range m n }
 {
-    1 <= m && m <= 8 && 1 <= n && n <= 16
+    both(1 <= m && m <= 8, 1 <= n && n <= 16)
 }
 
 // What C lends is taken in its parts, and `more` and `outputs` as two flags: docs/PROMISES.md names both calls and both flags.
@@ -163,7 +168,7 @@ pub fn problem<'a>(
     if !sizes_in_range(m, n) {
         return Err(Refusal::Sizes);
     }
-    if !(problem_fits(m, n, matrix.len(), moduli.len()) && more) {
+    if !both(problem_fits(m, n, matrix.len(), moduli.len()), more) {
         return Err(Refusal::Lengths);
     }
     if !outputs {
@@ -204,15 +209,18 @@ pub fn formula<'a>(
 }
 
 // The rows with a modulus among the first eight.
-pub fn modulus_rows(moduli: &[i32]) -> ArrayVec<usize, 8>
-    ensures { result.items ≡ first8 moduli.now }
+pub fn modulus_rows(moduli: &[i32]) -> ModulusRows
+    ensures array { ListsFirst8 moduli.now result }
+    ensures list { listed result ≡ first8 moduli.now }
 {
     let first = &moduli[..moduli.len().min(8)];
-    let mut rows = ArrayVec::new();
+    let mut listed = ModulusRows { rows: [0; 8], s: 0 };
     for (i, p) in first.iter().enumerate() {
-        if *p != NO_MODULUS {
-            rows.push(i);
+        if !is_zero(*p) {
+            let s = listed.s;
+            listed.rows[s] = i;
+            listed.s = s + 1;
         }
     }
-    rows
+    listed
 }

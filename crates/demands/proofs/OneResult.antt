@@ -3,15 +3,19 @@
 use mathlib.Core.Path.{◌≡◌, refl, sym, ◌∙◌, ap}
 use mathlib.Core.Bool.{Bool}
 use mathlib.Core.List.{List}
-use Prim.Native.Nat.{ℕ}
+use Prim.Native.Nat.{ℕ, ◌<◌}
+use native.Mathlib.Decide.{dec_lt}
+use native.Mathlib.Omega.{arith}
+use lib.ListN.{get_or}
+use lib.Seq.{ext_get_or}
 use lib.IntN.{ℤ}
 use Rattle.std.proofs.Common.{Result, Ok, Err, IfOk}
-use Rattle.arrayvec.specs.ArrayVec.{ArrayVec}
-use Rattle.rules.specs.Problem.{Problem, modulus_rows}
+use Rattle.rules.specs.Problem.{Problem}
 use Rattle.rules.specs.Calls.{Verdict, refused, Built, Weighed, Translated}
 use Rattle.checks.specs.declared.Refusal.{Refusal}
 use Rattle.checks.specs.declared.lent.Checked.{Checked}
-use Rattle.checks.specs.Lent.{first8}
+use Rattle.checks.specs.declared.lent.ModulusRows.{ModulusRows}
+use Rattle.checks.specs.Moduli.{ListsFirst8}
 use Rattle.checks.specs.Refusals.{number_of, place_of, told}
 use Rattle.checks.specs.Checks.{problem_of, TellsTo5, TellsTo6}
 use Rattle.checks.proofs.Refusals.{one_refusal, taken-refused, refusal_not-0}
@@ -44,19 +48,29 @@ both-are {ℓ} : {A : Type ℓ} {x y z : A} → x ≡ z → y ≡ z → x ≡ y
 both-are e f = e ∙ sym f
 
 -- ---- the checks
--- what is seen of a check's answer: the refusal, or the problem with its rows that have a modulus
-abbrev pub seen : Result Checked Refusal → Result (Problem × List ℕ) Refusal
-seen (Err e) = Err e
-seen (Ok p) = Ok (problem_of p, p.rows.items)
+pub one_listing : {moduli : List ℤ} {q q' : ModulusRows} → ListsFirst8 moduli q → ListsFirst8 moduli q' → q ≡ q'
+one_listing {moduli} {q} {q'} B D = λ i. record { rows = rows_same i; s = both-are B.count D.count i }
+  where
+    at : (c : ℕ) → Dec (c < q.s) → get_or q.rows c 0 ≡ get_or q'.rows c 0
+    at c (yes h) = both-are (B.rows c h) (D.rows c (omega (arith, B.count, D.count)))
+    at c (no h) = both-are (B.rest c (omega arith)) (D.rest c (omega (arith, B.count, D.count)))
 
-seen_rows : (p : Checked) → seen (Ok p) ≡ Ok (problem_of p, modulus_rows (problem_of p))
-seen_rows p = ap (λ l. Ok (problem_of p, l)) p.rows_listed
+    rows_same : q.rows ≡ q'.rows
+    rows_same = ext_get_or 0 q.rows q'.rows (both-are B.long D.long) (λ c _. at c (dec_lt c q.s))
+
+-- what is seen of a check's answer: the refusal, or the problem with its rows that have a modulus
+abbrev pub seen : Result Checked Refusal → Result (Problem × ModulusRows) Refusal
+seen (Err e) = Err e
+seen (Ok p) = Ok (problem_of p, p.rows)
 
 one_seen : (P : Problem) {v : Verdict} (r r' : Result Checked Refusal) → told r ≡ v → told r' ≡ v → IfOk r (λ p. problem_of p ≡ P) → IfOk r' (λ p. problem_of p ≡ P) → seen r ≡ seen r'
 one_seen P (Err e) (Err e') a b x y = ap Err (one_refusal (a ∙ sym b))
 one_seen P (Err e) (Ok p) a b x y = absurd (taken-refused (b ∙ sym a))
 one_seen P (Ok p) (Err e) a b x y = absurd (taken-refused (a ∙ sym b))
-one_seen P (Ok p) (Ok p') a b x y = seen_rows p ∙ ap (λ (P : Problem). Ok (P, modulus_rows P)) (x ∙ sym y) ∙ sym (seen_rows p')
+one_seen P (Ok p) (Ok p') a b x y =
+    let same : problem_of p ≡ problem_of p' = x ∙ sym y in
+    let rows : p.rows ≡ p'.rows = one_listing p.rows_told (rw (ap (λ (Q : Problem). Q.moduli) same) p'.rows_told) in
+    λ i. Ok (same i, rows i)
 
 pub one_problem : {m n : ℕ} {matrix moduli : List ℤ} {more outputs : Bool} {r r' : Result Checked Refusal} → TellsTo5 m n matrix moduli more outputs r
     → TellsTo5 m n matrix moduli more outputs r' → seen r ≡ seen r'
@@ -65,9 +79,6 @@ one_problem {r = r} {r' = r'} B D = one_seen _ r r' B.says D.says B.same D.same
 pub one_formula : {m n : ℕ} {matrix moduli : List ℤ} {terms : ℕ} {es : List ℤ} {outputs : Bool} {r r' : Result Checked Refusal}
     → TellsTo6 m n matrix moduli terms es outputs r → TellsTo6 m n matrix moduli terms es outputs r' → seen r ≡ seen r'
 one_formula {r = r} {r' = r'} B D = one_seen _ r r' B.says D.says B.same D.same
-
-pub one_listing : (moduli : List ℤ) {q q' : ArrayVec ℕ} → q.items ≡ first8 moduli → q'.items ≡ first8 moduli → q ≡ q'
-one_listing moduli B D = λ i. record { items = both-are B D i }
 
 -- ---- the calls, on numbers (A is ℤ) and on bytes (A is ℕ)
 pub one_build : {A : Type 0} {b : Built A} {r r' : BuildAnswer} {h v w h' v' w' : List A} → Builds b r h v w → Builds b r' h' v' w'

@@ -2,7 +2,7 @@
 use mathlib.Core.Path.{◌≡◌, refl, sym, ◌∙◌, ap, ap₂, subst}
 use Rattle.std.proofs.Common.{Result, Ok, Err}
 use mathlib.Core.Logic.{◌≢◌}
-use mathlib.Core.Bool.{Bool, true, ◌&&◌}
+use mathlib.Core.Bool.{Bool, true, false, ◌&&◌}
 use mathlib.Core.List.{List, [], ◌∷◌, ◌++◌}
 use Prim.Native.Nat.{ℕ}
 use lib.Dec.{leb}
@@ -56,3 +56,7 @@ module _ {P : Problem} {h v w : List ℤ} {r : Result Built Refusal} {h₁ v₁ 
     pub build_well_formed : WellFormed P
     unfolding build_verdict
     build_well_formed = (build_accepted P true taken_is).0
+
+    pub build_in_range : (run P).state.over ≡ false
+    unfolding build_verdict
+    build_in_range = (build_accepted P true taken_is).1

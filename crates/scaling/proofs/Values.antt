@@ -1,4 +1,8 @@
 -- Single values: what is stored, and what is computed of two entries in 64 bits.
+use mathlib.Core.Path.{ap₂, ◌∙◌}
+use Prim.Native.Nat.{◌^◌, ◌<◌}
+use lib.Signed.{mag}
+use mir.Val.{hbits}
 use Rattle.std.proofs.Common.{◌≡◌, refl, ap, Bool, true, false, cond, ◌≤◌, arith, ℤ, pos, nat_abs, ◌+ℤ◌, ◌*ℤ◌, to_z, of_z, w32, w64}
 use lib.Signed.{quot_z}
 use mir.Val.{SFits}
@@ -20,6 +24,18 @@ keep-small z = go (beyond z) refl
     go : (b : Bool) → beyond z ≡ b → nat_abs (cond b (pos 0) z) ≤ M
     go true e = omega arith
     go false e = within z e
+
+-- ---- a quotient of two entries, by either division, as it is answered: z
+pub record Quotient (div : ℤ → ℤ → ℤ) (a b z : ℤ) : Type 0 where
+  pub is : to_z w64 (of_z w64 z) ≡ div a b
+  pub small : nat_abs (to_z w64 (of_z w64 z)) ≤ 2147483648
+
+pub quotient_of : {div : ℤ → ℤ → ℤ} → ((a b : ℤ) → nat_abs (div a b) ≤ nat_abs a) → (a b : ℤ) {z : ℤ}
+    → mag a < 2 ^ hbits w32 → mag b < 2 ^ hbits w32 → mag z < 2 ^ hbits w64 → z ≡ div (to_z w32 (of_z w32 a)) (to_z w32 (of_z w32 b)) → Quotient div a b z
+quotient_of {div} le a b {z} f g h e =
+    let held : (x : ℤ) → mag x < 2 ^ hbits w32 → to_z w32 (of_z w32 x) ≡ x = λ x k. to_z-of_z {w = w32} (record { sfits = k }) in
+    let i : to_z w64 (of_z w64 z) ≡ div a b = to_z-of_z {w = w64} (record { sfits = h }) ∙ e ∙ ap₂ div (held a f) (held b g) in
+    record { is = i; small = rw i (omega (arith, le a b, abs32 a (record { sfits = f }))) }
 
 -- ---- entries in 64 bits, as `i64::from` gives them: u and v are x and y
 abbrev pub wide : ℤ → ℤ

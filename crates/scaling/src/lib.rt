@@ -79,7 +79,7 @@ fn build_checked(
     // `as`: both fit, and TryFrom would be a step that can fail.
     Ok(Built {
         rank: rank as u32,
-        moduli: p.rows.len() as u32,
+        moduli: p.rows.s as u32,
         steps: work.steps,
     })
 }

@@ -14,10 +14,10 @@ fn entry_of_c(p: &Checked<'_>, i: usize, c: usize) -> i32
     requires { InC (problem_of p.now) i c }
     ensures { result ≡ C (problem_of p.now) i c }
 {
-    match p.rows.get(c) {
+    match p.modulus_rows().get(c) {
         Some(k) if *k == i => opposite(p.moduli[i]),
         Some(_) => 0,
-        None => p.matrix[i * p.n + (c - p.rows.len())],
+        None => p.matrix[i * p.n + (c - p.rows.s)],
     }
 }
 

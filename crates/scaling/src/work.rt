@@ -253,6 +253,8 @@ impl Work {
     }
 
     // The first r columns of V come into range at every pivot row of the others, from the bottom row up.
+    // Not inlined: its states would lie on the stack below stages 1 and 2, which go deeper.
+    #[inline(never)]
     pub fn stage3(mut self, r: usize) -> Work
         requires { Stage3Begun r self }
         ensures { Tracks self.m self.cols result (stages.stage3 self.cols r self.cols (state_of self)) }

@@ -9,7 +9,7 @@ use Rattle.checks.specs.Checks.{given, finding}
 use Rattle.checks.proofs.Found.{out-position}
 use Rattle.checks.proofs.Verdicts.{Passed, to5, five-passed}
 use Rattle.checks.proofs.problem.Goals as goal
-use Rattle.checks.proofs.problem.Goals.{After-first_out, After-first_out-2, After-modulus_rows, then-problem_fits, else-problem_fits}
+use Rattle.checks.proofs.problem.Goals.{After-first_out, After-first_out-2, After-modulus_rows}
 
 -- what the checks that are passed have shown
 module _ (c : After-first_out) where
@@ -17,7 +17,7 @@ module _ (c : After-first_out) where
   sizes = sym c.sizes_in_range.ensures ∙ c.if-not-sizes_in_range.false
 
   inputs : (problem_fits (given c.args.m c.args.n c.args.matrix.now c.args.moduli.now) && c.args.more) ≡ true
-  inputs = elim c.if-problem_fits.branch [ then-problem_fits w ↦ search rules | else-problem_fits w ↦ search rules ]
+  inputs = search rules
 
 moduli : (c : After-first_out-2) → first_out modulus_in_range c.args.moduli.now ≡ none
 moduli c = (out-position modulus_in_range c.args.moduli.now) ∙ ap finding (sym c.first_out.ensures ∙ c.in_default.is)
@@ -48,7 +48,8 @@ returns-in-Some-first_out c =
 pub invariant_of-result : goal.invariant_of-result
 invariant_of-result c = record {
   well_formed = (passed c).well_formed;
-  rows_listed = c.modulus_rows.ensures ∙ ap (modulus_rows_from 0) (take_all 8 c.args.moduli.now (passed c).well_formed.m-high);
+  rows_told = c.modulus_rows.ensures.array;
+  rows_listed = c.modulus_rows.ensures.list ∙ ap (modulus_rows_from 0) (take_all 8 c.args.moduli.now (passed c).well_formed.m-high);
 }
 
 pub returns : goal.returns

@@ -1,6 +1,7 @@
 -- `build_checked`: what is copied out is H, V and W.
-use Rattle.std.proofs.Common.{ap, length, arith, ◌∙◌}
+use Rattle.std.proofs.Common.{arith}
 use Rattle.checks.specs.Checks.{problem_of}
+use Rattle.checks.proofs.Listing.{rows_counted}
 use Rattle.theory.proofs.Sizes.{N-le_24}
 use Rattle.scaling.proofs.Building.{rank-few, builds-taken}
 use Rattle.scaling.proofs.build_checked.Goals as goal
@@ -15,4 +16,4 @@ returns c =
     let p = c.args.p.now in
     builds-taken p.well_formed c.in_ok-work.ensures _ _ _
     c.copy_from_slice.ensures.after c.copy_from_slice-2.ensures.after c.copy_from_slice-3.ensures.after
-    (c.len.ensures.value ∙ ap length p.rows_listed)
+    (rows_counted p)
