@@ -1,3 +1,3 @@
 -- What the contracts of the program's functions cite.
---     Reading   what is held in the end, and how the reading stopped (`input::read`)
+--     Reading   what each read's answer says (`input::heard`), and what is held in the end and how the reading stopped (`input::read`)
 pub mod Reading

@@ -1,6 +1,8 @@
 // Reading an input to its end, with a failed read told from the end: what came before it is no whole input.
-ghost use Rattle.glaukemis.specs.Reading.{Given, HeldBytes};
+ghost use Rattle.std.specs.Prelude.{◌≡◌, ◌-◌, ◌<◌, ◌≤◌, length, IfOk};
+ghost use Rattle.glaukemis.specs.Reading.{Given, HeldBytes, marked, told};
 
+use std::io;
 use std::io::Read;
 
 // How a reading stopped: at the end of the input, at a read that failed, or where the buffer was full.
@@ -19,6 +21,23 @@ pub struct Held {
     pub end: End,
 }
 
+// What a read's answer says, `len` bytes being held before it: how many are held now, and how the reading stops, if it does.
+fn heard(got: io::Result<usize>, buf: &mut [u8], len: usize) -> (usize, Option<End>)
+    requires len_in_bounds { len < length buf.old }
+    requires moved { IfOk got (λ n. n ≤ length buf.old - len) }
+    ensures value { result ≡ told got len }
+    ensures buf_after { buf.new ≡ marked got len buf.old }
+{
+    match got {
+        Ok(0) => (len, Some(End::AtEnd)),
+        Ok(n) => (len + n, None),
+        Err(_) => {
+            buf[len] = b' ';
+            (len + 1, Some(End::Failed))
+        }
+    }
+}
+
 // Reads until the input ends, a read fails or buf is full.
 pub fn read<R: Read>(input: &mut R, buf: &mut [u8]) -> Held
     ensures held { HeldBytes buf.new result }
@@ -27,20 +46,12 @@ pub fn read<R: Read>(input: &mut R, buf: &mut [u8]) -> Held
     let mut len = 0;
     // No `for`: each read says how far it came.
     while len < buf.len() {
-        match input.read(&mut buf[len..]) {
-            Ok(0) => return Held {
-                len,
-                end: End::AtEnd,
-            },
-            Ok(n) => len += n,
-            Err(_) => {
-                buf[len] = b' ';
-                return Held {
-                    len: len + 1,
-                    end: End::Failed,
-                };
-            }
+        let got = input.read(&mut buf[len..]);
+        let (held, end) = heard(got, buf, len);
+        if let Some(end) = end {
+            return Held { len: held, end };
         }
+        len = held;
     }
     Held {
         len,

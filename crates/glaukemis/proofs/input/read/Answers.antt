@@ -1,31 +1,31 @@
--- What a read gave stands behind what was held; a failed read leaves a blank there.
-use Rattle.std.proofs.Common.{◌≡◌, ℕ, ◌+◌, ◌-◌, ◌≤◌, List, ◌++◌, length, take, ◌<◌, Option, arith, rules}
-use Rattle.std.proofs.Math.Seq.{take-append-add}
-use Rattle.std.proofs.lemmas.List.{take-append-le, take_more_set, length-set}
-use Rattle.std.proofs.KnownBytes.{Consumes-trans}
+-- `input::read` goes on only while bytes come, and stops as `ReadAnswers` says.
+use Rattle.std.proofs.Common.{◌≡◌, ◌+◌, ◌-◌, ◌≤◌, length, take, drop, None, arith, rules}
+use Rattle.std.proofs.lemmas.List.{drop_at}
 use Rattle.std.proofs.lemmas.Slice.{overwrites}
-use Rattle.std.specs.Io.KnownBytes.{Consumes}
+use Rattle.std.specs.Io.KnownBytes.{ReadConsumes}
 use borrow.Rule.Slice.PartMut.{put_mid}
-use Rattle.frames.proofs.Broken.{broken_refused}
+use Rattle.glaukemis.specs.Reading.{told}
+use Rattle.glaukemis.proofs.ReadAnswers.{stops, goes_on}
 use Rattle.glaukemis.proofs.input.read.Goals as goal
 
--- n bytes more are held, the first of ys
-more_held : (x y z : Option (List ℕ)) (len k n : ℕ) (xs ys : List ℕ) → len ≤ length xs → n ≤ length ys
-    → Consumes x y (take len xs) → Consumes y z (take n ys) → Consumes x z (take (len + n) (put_mid len k xs ys))
-more_held x y z len k n xs ys l m p q =
-    let e : take (len + n) (put_mid len k xs ys) ≡ take len xs ++ take n ys = search (rules, overwrites, take-append-add, take-append-le) in
-    rw e (Consumes-trans x y z _ _ p q)
+pub returns-in-Some-clause-held : goal.returns-in-Some-clause-held
+returns-in-Some-clause-held g c =
+    let e = c.heard-held.ensures in
+    rw (e.value, e.buf_after) (stops c.read-got.result c.loop-len.len _ c.in-Some.end (search rules) (rw (← e.value) c.in-Some.is))
 
 pub loop-len-preserved : goal.loop-len-preserved
 loop-len-preserved g c =
+    let e = c.heard-held.ensures in
     let l = c.loop-len in
-    let r = c.in-Ok.ensures in (
-      search rules,
-      more_held _ _ _ l.len _ c.in-Ok.n l.buf c.read.new.buf l.invariant.0 r.bound.0 l.invariant.1 r.bytes.0,
-    )
-
-pub returns-in-Err-clause-held : goal.returns-in-Err-clause-held
-returns-in-Err-clause-held g c =
-    let l = c.loop-len in
-    let long : l.len < length (put_mid l.len (length l.buf - l.len) l.buf c.read.new.buf) = search rules in
-    record { inside = rw length-set (omega arith); full = λ h. cc; refused = λ h. rw (take_more_set _ _ _ long) (broken_refused _) }
+    let r = c.read-got in
+    let m = g.R.Read.remaining in
+    let after = put_mid l.len (length l.buf - l.len) l.buf r.new.buf in
+    let given : ReadConsumes (m l.input) (m r.new.self) r.result r.new.buf = search rules in
+    let end : length l.buf ≤ l.len + (length l.buf - l.len) = omega arith in
+    let s : length after ≡ length l.buf = search rules in
+    let k : take l.len after ≡ take l.len l.buf = search (rules, overwrites) in
+    let d : drop l.len after ≡ r.new.buf = search (rules, overwrites, drop_at) in
+    let n : (told r.result l.len).1 ≡ None = rw (← e.value) c.in_default.is in
+    let h = goes_on (m c.args.input.now) (m l.input) (m r.new.self) r.result l.len l.buf after s k
+    c.loop-len-test.true (search rules) l.invariant.1 (rw d given) n in
+    rw (e.value, e.buf_after) (h.0, h.2)
