@@ -19,7 +19,7 @@ pub fn long(a: u8, b: u8, c: u8, d: u8) -> i32
     i32::from_be_bytes([a, b, c, d])
 }
 
-// The lowest byte of a number. By hand, since no plainer form is there: `as` has to lose nothing. Nothing here calls it, and docs/PROMISES.md names it.
+// The lowest byte of a number, by which `frames` prints. By hand, since no plainer form is there: `as` has to lose nothing.
 pub fn low(x: u64) -> u8
     ensures { result ≡ x % 256 }
 {

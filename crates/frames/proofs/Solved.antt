@@ -53,10 +53,10 @@ pub room-for-rows : RoomToBuild (fresh 192) (fresh 576) (fresh 576)
 room-for-rows = record { h = at-least 192; v = at-least 576; w = at-least 576 }
 
 -- a refusal that is handed on prints its line
-pub refused-prints : (r : Result (ArrayVec ℕ) Refusal) (e : Refusal) {text : List ℕ}
-    → IsErr r × IsErrAnd r (λ x. x ≡ e) → text ≡ refusal_line (number_of e) (place_of e) → Prints r text
-refused-prints (Ok x) e h g = absurd h.1
-refused-prints (Err x) e h g = rw h.1 g
+pub refused-prints : (r : Result Unit Refusal) (e : Refusal) (x : ArrayVec ℕ) {text : List ℕ}
+    → IsErr r × IsErrAnd r (λ x. x ≡ e) → text ≡ refusal_line (number_of e) (place_of e) → Prints r x text
+refused-prints (Ok _) e x h g = absurd h.1
+refused-prints (Err _) e x h g = rw h.1 g
 
 -- the first k entries of a lent array are what it was filled with
 pub record Front (k : ℕ) (after contents : List ℤ) : Type 0 where

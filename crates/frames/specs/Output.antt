@@ -1,5 +1,5 @@
 -- What the code has printed.
-use Rattle.std.specs.Prelude.{◌≡◌, List, ◌∷◌, ◌++◌, ℕ, ◌+◌, ◌*◌, ◌/◌, ◌≤◌, length, take, ℤ, Result, Ok, Err}
+use Rattle.std.specs.Prelude.{◌≡◌, List, ◌∷◌, ◌++◌, ℕ, ◌+◌, ◌*◌, ◌/◌, ◌≤◌, length, take, replicate, ℤ, Result, Ok, Err}
 use Rattle.arrayvec.specs.ArrayVec.{ArrayVec, array_vec_len}
 use Rattle.rules.specs.Bytes.{byte, four_bytes, bytes_of}
 use Rattle.rules.specs.Frames.{frame, row_lines, term_lines, refusal_line}
@@ -9,6 +9,10 @@ use Rattle.scaling.specs.declared.Built.{Built}
 use Rattle.frames.specs.declared.input.Input.{Input}
 use Rattle.frames.specs.declared.print.Kind.{Kind}
 use Rattle.frames.specs.declared.print.Kind.TheVariants.{Sizes, H, V, W, Term, Refused}
+
+-- the bytes after a text
+abbrev pub zeros : (count : ℕ) → List ℕ
+zeros count = replicate count 0
 
 -- there is room for a text after what is printed
 abbrev pub Fits : ArrayVec ℕ → (text : List ℕ) → Type 0
@@ -44,10 +48,10 @@ pub record Shows (x : ArrayVec ℕ) (text : List ℕ) : Type 0 where
   pub fits : length text ≤ 20480
   pub items_are : x.items ≡ text
 
--- a Text is the text given, or there is none, and the text is a refusal's line
-abbrev pub Prints : Result (ArrayVec ℕ) Refusal → List ℕ → Type 0
-Prints (Ok x) text = Shows x text
-Prints (Err r) text = text ≡ refusal_line (number_of r) (place_of r)
+-- a Text is the text given; or the answer is a refusal and the text its line, and nothing is said of the Text
+abbrev pub Prints : Result Unit Refusal → ArrayVec ℕ → (text : List ℕ) → Type 0
+Prints (Ok _) x text = Shows x text
+Prints (Err r) x text = text ≡ refusal_line (number_of r) (place_of r)
 
 abbrev pub columns : Input → Built → ℕ
 columns x b = x.n + b.moduli

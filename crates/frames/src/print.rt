@@ -7,7 +7,7 @@ ghost use Rattle.checks.specs.Refusals.{number_of, place_of};
 ghost use Rattle.frames.specs.Output.{Fits, kind_byte, sizes_text, row_text, rows_text, term_text};
 
 use crate::Text;
-use byte_numbers::four_bytes;
+use byte_numbers::{four_bytes, low};
 use checks::Refusal;
 use scaling::Built;
 
@@ -53,14 +53,19 @@ fn frame(out: &mut Text, bs: &[u8])
     out.push(b'\n');
 }
 
-#[tactic(auto, unfolding(rules::specs::Frames::refusal_line))]
+#[tactic(auto, unfolding(rules::specs::Frames::refusal_line, rules::specs::Frames::frame, rules::specs::Frames::hex))]
 pub fn refusal(out: &mut Text, r: Refusal)
     requires { Fits out.old (refusal_line (number_of r) (place_of r)) }
     ensures { out.new.items ≡ out.old.items ++ refusal_line (number_of r) (place_of r) }
 {
-    let [.., number] = r.number().to_be_bytes();
-    let [.., high, low] = r.place().to_be_bytes();
-    frame(out, &[Kind::Refused as u8, number, high, low]);
+    let place = u64::from(r.place());
+    let bs = [
+        Kind::Refused as u8,
+        low(u64::from(r.number())),
+        low(place >> 8),
+        low(place),
+    ];
+    frame(out, &bs);
 }
 
 // The sizes line.
@@ -69,12 +74,19 @@ pub fn sizes(out: &mut Text, m: u32, n: u32, built: Built)
     requires { Fits out.old (sizes_text m n built) }
     ensures { out.new.items ≡ out.old.items ++ sizes_text m n built }
 {
-    let [.., m] = m.to_be_bytes();
-    let [.., n] = n.to_be_bytes();
-    let [.., s] = built.moduli.to_be_bytes();
-    let [.., r] = built.rank.to_be_bytes();
-    let [.., a, b, c, d] = built.steps.to_be_bytes();
-    frame(out, &[Kind::Sizes as u8, m, n, s, r, a, b, c, d]);
+    let steps = built.steps;
+    let bs = [
+        Kind::Sizes as u8,
+        low(u64::from(m)),
+        low(u64::from(n)),
+        low(u64::from(built.moduli)),
+        low(u64::from(built.rank)),
+        low(steps >> 24),
+        low(steps >> 16),
+        low(steps >> 8),
+        low(steps),
+    ];
+    frame(out, &bs);
 }
 
 // Numbers in four bytes each.

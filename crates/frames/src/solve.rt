@@ -1,26 +1,15 @@
 // From what was read to the output's text: the translation, the build, and the lines that tell them.
 ghost use Rattle.std.specs.Prelude.{true};
 ghost use Rattle.rules.specs.Calls.{translate_verdict};
-ghost use Rattle.rules.specs.Frames.{refusal_line, answered};
-ghost use Rattle.checks.specs.Refusals.{number_of, place_of};
+ghost use Rattle.rules.specs.Frames.{answered};
 ghost use Rattle.frames.specs.Input.{problem_in, formula_in};
 ghost use Rattle.frames.specs.Output.{Shows, Prints, Room, solution_text};
 
 use crate::Text;
 use crate::input::Input;
-use crate::print::{Kind, refusal, rows, sizes, terms};
+use crate::print::{Kind, rows, sizes, terms};
 use checks::{ROOM_COEFFICIENTS, ROOM_EXPONENTS, ROOM_H, ROOM_V, ROOM_W, Refusal};
 use scaling::Built;
-
-// One line that tells a refusal.
-#[tactic(auto, unfolding(rules::specs::Frames::refusal_line, rules::specs::Frames::frame, rules::specs::Frames::hex))]
-pub fn refused(r: Refusal) -> Text
-    ensures { Shows result (refusal_line (number_of r) (place_of r)) }
-{
-    let mut out = Text::new();
-    refusal(&mut out, r);
-    out
-}
 
 // All lines of a solution, which the first entries of the arrays are: what two calls wrote, for which a struct would be made once.
 // `as` between u32 and usize: std has no From for them, and TryFrom would be a step that can fail; each is proved to lose nothing.
@@ -33,25 +22,25 @@ fn solution(
     w: &[i32],
     kept: &[i32],
     translated: &[i32],
-) -> Text
+    out: &mut Text,
+)
     requires { Room x.now built d h.now v.now w.now kept.now translated.now }
-    ensures { Shows result (solution_text x.now built d h.now v.now w.now kept.now translated.now) }
+    ensures { Shows out.new (solution_text x.now built d h.now v.now w.now kept.now translated.now) }
 {
     let cols = x.n + built.moduli as usize;
     let count = x.coefficients.len();
     let d = d as usize;
-    let mut out = Text::new();
-    sizes(&mut out, x.m as u32, x.n as u32, built);
-    rows(&mut out, Kind::H, &h[..x.m * cols], cols);
-    rows(&mut out, Kind::V, &v[..cols * cols], cols);
-    rows(&mut out, Kind::W, &w[..cols * cols], cols);
-    terms(&mut out, &kept[..count], &translated[..count * d], d);
-    out
+    *out = Text::new();
+    sizes(out, x.m as u32, x.n as u32, built);
+    rows(out, Kind::H, &h[..x.m * cols], cols);
+    rows(out, Kind::V, &v[..cols * cols], cols);
+    rows(out, Kind::W, &w[..cols * cols], cols);
+    terms(out, &kept[..count], &translated[..count * d], d);
 }
 
 // The lines of what was read, or why there are none.
-pub fn solve(x: &Input) -> Result<Text, Refusal>
-    ensures { Prints result (answered (problem_in x.now) (formula_in x.now)
+pub fn solve(x: &Input, out: &mut Text) -> Result<(), Refusal>
+    ensures { Prints result out.new (answered (problem_in x.now) (formula_in x.now)
         (translate_verdict (problem_in x.now) (formula_in x.now) true true)) }
 {
     let m = x.m as u32;
@@ -72,5 +61,6 @@ pub fn solve(x: &Input) -> Result<Text, Refusal>
     let mut v = [0; ROOM_V];
     let mut w = [0; ROOM_W];
     let built = scaling::build(m, n, &x.matrix, &x.moduli, &mut h, &mut v, &mut w)?;
-    Ok(solution(x, built, d, &h, &v, &w, &kept, &translated))
+    solution(x, built, d, &h, &v, &w, &kept, &translated, out);
+    Ok(())
 }

@@ -6,9 +6,9 @@ use Rattle.frames.proofs.print.hex.Goals as goal
 pub push-requires : goal.push-requires
 push-requires c =
     let room = next-fits c.loop-b.invariant (next-byte c.args.bs.now c.loop-b.b-index (omega arith)) c.requires in
-    (omega arith, omega arith)
+    omega arith
 
 pub push-requires-in-loop-b : goal.push-requires-in-loop-b
 push-requires-in-loop-b c =
     let room = next-fits c.loop-b.invariant (next-byte c.args.bs.now c.loop-b.b-index (omega arith)) c.requires in
-    (omega arith, omega arith)
+    omega arith

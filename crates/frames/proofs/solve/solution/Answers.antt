@@ -25,4 +25,4 @@ terms-requires-clause-room c = grind (arith, length-append, solution-fits c.requ
 
 pub returns : goal.returns
 unfolding solution_text
-returns c = record { fits = solution-fits c.requires; items_are = grind (arith, c.new-out.ensures) }
+returns c = record { fits = solution-fits c.requires; items_are = grind (arith, c.new.ensures) }

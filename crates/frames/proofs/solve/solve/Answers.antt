@@ -11,7 +11,7 @@ returns-in_err-d c =
     let t =
     rw (c.in_err-d.was, c.deref.ensures.0, c.deref-2.ensures.0, c.deref-3.ensures.0, c.deref-4.ensures.0)
     at c.translate.ensures in
-    refused-prints c.from_residual.result c.in_err-d.field-0.0 c.from_residual.ensures
+    refused-prints c.from_residual.result c.in_err-d.field-0.0 _ c.from_residual.ensures
     (refused-text c.args.x.now room-for-terms t (refusal_not-0 c.in_err-d.field-0.0))
 
 -- the translation was taken
