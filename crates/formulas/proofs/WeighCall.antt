@@ -12,7 +12,7 @@ use lib.IntN.{ℤ}
 use borrow.Author.Tests.{eqb-true, leb-true}
 use Rattle.std.proofs.Common.{Result, Ok, Err}
 use Rattle.std.proofs.lemmas.Result.{IfOk-at_ok}
-use Rattle.whole.specs.Lists.{nth}
+use Rattle.whole.specs.Lists.{nth, tab}
 use Rattle.whole.proofs.Lists.{length-tab}
 use Rattle.rules.specs.Limits.{most_terms, room_weights}
 use Rattle.rules.specs.Problem.{Problem}
@@ -26,6 +26,7 @@ use Rattle.checks.specs.Checks.{given, problem_of, terms_fit, TellsTo6}
 use Rattle.checks.proofs.Verdicts.{to6, formula-passed, exponents-passed}
 use Rattle.formulas.specs.Terms.{Monomial}
 use Rattle.formulas.specs.FormulaPromises.{Weighs, weigh_answer}
+use Rattle.formulas.proofs.Written.{tab-whole}
 
 -- a monomial is one term
 one_term : (n exponents : ℕ) → terms_fit n 1 exponents ≡ eqb exponents n
@@ -54,14 +55,25 @@ module _ {m n : ℕ} {matrix moduli es : List ℤ} {r : Result Checked Refusal} 
       small = exponents-small es (exponents-passed t d);
     }
 
+    rows : length p.moduli.now ≡ length moduli
+    rows = ap (λ Q. Q.m) (same ∙ (formula-passed t d).same)
+
     long : length (weights (problem_of p) (nth es)) ≡ length moduli
     unfolding weights
-    long = length-tab (length p.moduli.now) (weight (problem_of p) (nth es)) ∙ ap (λ Q. Q.m) (same ∙ (formula-passed t d).same)
+    long = length-tab (length p.moduli.now) (weight (problem_of p) (nth es)) ∙ rows
 
-    pub fits : length (take (length moduli) out) ≡ length (weights (problem_of p) (nth es))
+    fits : length (take (length moduli) out) ≡ length moduli
     fits =
         let a = formula-passed t d in
-        rw long (length-take-le (length moduli) out (omega (arith, a.well_formed.m-high, leb-true room_weights (length out) a.room)))
+        length-take-le (length moduli) out (omega (arith, a.well_formed.m-high, leb-true room_weights (length out) a.room))
+
+    -- once every row is written
+    pub all_written : (k : ℕ) {xs : List ℤ} → k ≡ length (take (length moduli) out)
+        → xs ≡ tab k (weight (problem_of p) (nth es)) ++ drop k (take (length moduli) out) → xs ≡ weights (problem_of p) (nth es)
+    unfolding weights
+    all_written k e h =
+        h ∙ tab-whole k (weight (problem_of p) (nth es)) (take (length moduli) out) (omega arith)
+        ∙ ap (λ i. tab i (weight (problem_of p) (nth es))) (e ∙ fits ∙ sym rows)
 
     pub weigh_passed : {out₁ : List ℤ} → out₁ ≡ weights (problem_of p) (nth es)
         → Weighs (weigh_of P es out) (weigh_answer (Ok tt)) (out₁ ++ drop (length moduli) out)

@@ -1,25 +1,30 @@
 -- A row of a well-formed problem times a monomial: the sum that the code adds up, its size and that of the weight.
-use mathlib.Core.Path.{◌≡◌, ap, ◌∙◌}
+use mathlib.Core.Path.{◌≡◌, refl, sym, ap, ◌∙◌}
 use mathlib.Core.Logic.{◌≢◌}
 use mathlib.Core.List.{List}
-use mathlib.Core.Bool.{Bool}
+use mathlib.Core.Bool.{Bool, not}
 use Prim.Native.Nat.{ℕ, suc, ◌+◌, ◌-◌, ◌*◌, ◌<◌, ◌≤◌}
 use native.Mathlib.Nat.{mul-le-mul}
 use native.Mathlib.Omega.{arith}
+use lib.Dec.{eqb}
 use lib.ListN.{length, take, drop, length-drop}
 use lib.Seq.{length-take-le, get_or-drop}
 use Rattle.std.proofs.lemmas.List.{get_or-take}
 use lib.IntN.{ℤ, pos, nat_abs, ◌*ℤ◌}
+use mir.Syntax.{w64}
+use mir.Val.{SFits, of_z}
 use Rattle.whole.specs.Lists.{nth}
 use Rattle.whole.specs.Sum.{sum}
 use Rattle.whole.proofs.Sum.{sum_cong}
 use Rattle.whole.proofs.Tests.{Test, pass, fail}
 use Rattle.whole.proofs.Division.{rem-le}
+use Rattle.rules.specs.Limits.{is_zero}
 use Rattle.rules.specs.Problem.{Problem, modulus, WellFormed}
 use Rattle.rules.specs.Formulas.{row_times, weight}
 use Rattle.theory.proofs.Weights.{weight_without, weight_with}
 use Rattle.theory.proofs.Limits.{is_zero?}
 use Rattle.theory.proofs.Sizes as sizes
+use Rattle.checks.proofs.Values.{zero_bits}
 use Rattle.formulas.specs.Terms.{Monomial, dot_of, most_row_times, Weight}
 
 -- count numbers of a list, from an index on
@@ -55,3 +60,11 @@ module _ {P : Problem} (F : WellFormed P) {es : List ℤ} (E : Monomial P.n es) 
 
   pub is_weight : (r : ℤ) → r ≡ weight P (nth es) i → Weight P (nth es) i r
   is_weight r e = record { is = e; small = rw e weight_size }
+
+-- row i has a weight that is not 0
+abbrev pub weighs : Problem → (ℕ → ℤ) → ℕ → Bool
+weighs P v i = not (is_zero (weight P v i))
+
+-- the bits of a weight are 0 where the weight is
+pub tested : {P : Problem} {v : ℕ → ℤ} {i : ℕ} {r : ℤ} {b : Bool} → Weight P v i r → SFits w64 r → eqb (of_z w64 r) 0 ≡ b → weighs P v i ≡ not b
+tested {r = r} W fits e = ap (λ x. not (is_zero x)) (sym W.is) ∙ ap not (sym (zero_bits w64 refl r fits) ∙ e)

@@ -10,4 +10,4 @@ problem_at e = problem_of e.problem.now
 
 -- its exponents
 abbrev pub v_at : Term → ℕ → ℤ
-v_at e = nth e.exponents.items
+v_at e = nth e.exponents.now

@@ -88,7 +88,10 @@ pub fn weigh(
         ROOM_WEIGHTS <= weights.len(),
     )?;
     let term = Term::new(&problem, exponents);
-    weights[..moduli.len()].copy_from_slice(&term.weights());
+    for (i, x) in weights[..moduli.len()].iter_mut().enumerate() {
+        // `as`: it fits, and TryFrom would be a step that can fail
+        *x = term.weight(i) as i32;
+    }
     Ok(())
 }
 

@@ -10,7 +10,7 @@ ghost use Rattle.checks.specs.Checks.{problem_of};
 ghost use Rattle.formulas.specs.FormulaPromises.{lent_formula, Solved, judged, terms_verdict, AllTaken, exponents_into, translated_by};
 ghost use Rattle.formulas.specs.FormulaPromises.{RoomToTranslate, Translates, translate_answer};
 
-use crate::terms::{Term, dot};
+use crate::terms::{Term, wide_dot};
 use arrayvec::ArrayVec;
 use checks::{Checked, Refusal, beyond};
 
@@ -41,7 +41,7 @@ impl<'a> Translation<'a> {
     fn term(&self, t: usize) -> Term<'a>
         requires { t < terms (formula_in self.now) }
         ensures of_problem { result.problem.now ≡ self.now.problem.now }
-        ensures of_exponents { let n = self.now.problem.now.n in result.exponents.items ≡ take n (drop (t * n) self.now.exponents.now) }
+        ensures of_exponents { let n = self.now.problem.now.n in result.exponents.now ≡ take n (drop (t * n) self.now.exponents.now) }
     {
         let n = self.problem.n;
         Term::new(self.problem, &self.exponents[t * n..(t + 1) * n])
@@ -57,7 +57,7 @@ impl<'a> Translation<'a> {
         let n = self.problem.columns();
         let mut x = ArrayVec::new();
         for i in self.rank..n {
-            x.push(dot(&self.w[i * n..(i + 1) * n], &e));
+            x.push(wide_dot(&self.w[i * n..(i + 1) * n], &e));
         }
         x
     }

@@ -1,15 +1,12 @@
-use Rattle.std.proofs.Common.{◌≡◌, ◌∙◌}
+use Rattle.std.proofs.Common.{◌≡◌, ◌≤◌, nat_abs, length, take, refl, arith, ◌∙◌}
 use Rattle.std.proofs.lemmas.Result.{err_from_is_err_and}
-use Rattle.whole.specs.Lists.{nth}
-use Rattle.rules.specs.Calls.{weights}
-use Rattle.checks.specs.Checks.{problem_of}
-use Rattle.formulas.proofs.WeighCall.{weigh_refused, monomial, fits, weigh_passed}
+use Rattle.rules.specs.Limits.{M}
+use Rattle.rules.specs.Formulas.{weight}
+use Rattle.scaling.proofs.Filling.{front-turn}
+use Rattle.formulas.specs.Term.{problem_at, v_at}
+use Rattle.formulas.proofs.Sums.{narrowed}
+use Rattle.formulas.proofs.WeighCall.{weigh_refused, monomial, all_written, weigh_passed}
 use Rattle.formulas.proofs.weigh.Goals as goal
-use Rattle.formulas.proofs.weigh.Goals.{After-deref}
-
--- what is copied into the output
-made : (c : After-deref) → c.deref.result.now ≡ weights (problem_of c.in_ok-problem.problem) (nth c.args.exponents.now)
-made c = c.deref.ensures.0 ∙ (rw (c.new-term.ensures.of_problem, c.new-term.ensures.of_exponents) at c.weights.ensures)
 
 pub returns-in_err-problem : goal.returns-in_err-problem
 returns-in_err-problem c =
@@ -19,10 +16,18 @@ returns-in_err-problem c =
 pub new-term-requires : goal.new-term-requires
 new-term-requires c = monomial c.args.weights.now c.formula.ensures c.in_ok-problem.was
 
-pub copy_from_slice-requires : goal.copy_from_slice-requires
-copy_from_slice-requires c =
-    rw (made (goal.at.copy_from_slice-requires c).After-deref) (fits c.args.weights.now c.formula.ensures c.in_ok-problem.was)
+pub loop-i-init : goal.loop-i-init
+loop-i-init c = refl
+
+pub loop-i-preserved : goal.loop-i-preserved
+loop-i-preserved c =
+    let t = c.new-term.result in
+    let small : nat_abs c.weight.result ≤ M = omega (arith, c.weight.ensures.small) in
+    front-turn (take (length c.args.moduli.now) c.args.weights.now) (weight (problem_at t) (v_at t)) c.loop-i.i c.loop-i.invariant
+    (narrowed c.weight.result small ∙ c.weight.ensures.is) (omega arith)
 
 pub returns : goal.returns
 returns c =
-    weigh_passed c.args.weights.now c.formula.ensures c.in_ok-problem.was (c.copy_from_slice.ensures.after ∙ made (goal.at.returns c).After-deref)
+    let e = rw (c.new-term.ensures.of_problem, c.new-term.ensures.of_exponents) at c.loop-i.invariant in
+    let all : c.loop-i.i ≡ length (take (length c.args.moduli.now) c.args.weights.now) = omega arith in
+    weigh_passed c.args.weights.now c.formula.ensures c.in_ok-problem.was (all_written c.args.weights.now c.formula.ensures c.in_ok-problem.was c.loop-i.i all e)

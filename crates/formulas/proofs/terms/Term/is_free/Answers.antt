@@ -1,24 +1,29 @@
-use Rattle.std.proofs.Common.{rules, tests, ℕ, ℤ, not, eqb, arith, refl, ap, ◌∙◌, of_z, w32}
-use Rattle.std.specs.List.{list_all}
-use Rattle.std.proofs.lemmas.Iterator.{YieldsList-from_slice}
-use Rattle.std.proofs.lemmas.Iterator.Search.{all_from_yields_List}
-use Rattle.whole.proofs.Order.{fits}
-use Rattle.rules.specs.Problem.{Problem}
-use Rattle.rules.specs.Formulas.{weight, is_none, is_free}
-use Rattle.rules.specs.Calls.{weights}
-use Rattle.theory.proofs.Search.{first_cong}
-use Rattle.formulas.specs.Term.{problem_at, v_at}
-use Rattle.checks.proofs.Values.{zero_bits}
-use Rattle.formulas.proofs.Searches.{all-first}
-use Rattle.formulas.proofs.Weighing.{weight_size}
+use Rattle.std.proofs.Common.{rules, ◌≡◌, length, add-one, arith, ap, sym, of_z, w64}
+use mir.Val.{SFits}
+use borrow.Author.Tests.{eq-eqb, ne_eqb}
+use Rattle.rules.specs.Formulas.{is_none, is_free}
+use Rattle.theory.proofs.Loops.{first_start, first_more, first_hit}
+use Rattle.formulas.proofs.Weighing.{tested}
 use Rattle.formulas.proofs.terms.Term.is_free.Goals as goal
 
+pub loop-i-init : goal.loop-i-init
+loop-i-init c = first_start _ 0 0 (omega arith)
+
+pub returns-then-weight-ne0 : goal.returns-then-weight-ne0
+unfolding is_free
+returns-then-weight-ne0 c =
+    let fits : SFits w64 c.weight.result = search rules in
+    sym (ap is_none (first_hit _ 0 c.loop-i.i (length c.args.self.now.problem.now.moduli.now) (omega arith) c.loop-i-test.true c.loop-i.invariant
+    (tested c.weight.ensures fits (ne_eqb (of_z w64 c.weight.result) 0 c.if-weight-ne0.true))))
+
+pub loop-i-preserved : goal.loop-i-preserved
+loop-i-preserved c =
+    let fits : SFits w64 c.weight.result = search rules in
+    rw add-one (first_more _ 0 c.loop-i.i (omega arith) c.loop-i.invariant
+    (tested c.weight.ensures fits (eq-eqb (of_z w64 c.weight.result) 0 c.if-weight-ne0.false)))
+
 pub returns : goal.returns
-unfolding is_free weights
+unfolding is_free
 returns c =
-    let t = c.args.self.now in
-    let P : Problem = problem_at t in
-    let v : ℕ → ℤ = v_at t in
-    all_from_yields_List (λ z. eqb (of_z w32 z) 0) _ _ c.all.result c.all.ensures.ran (YieldsList-from_slice c.deref.result.now cc) (λ x b q k. search (rules, tests))
-    ∙ ap (list_all (λ z. eqb (of_z w32 z) 0)) (c.deref.ensures.0 ∙ c.weights.ensures) ∙ all-first (λ z. eqb (of_z w32 z) 0) P.m (weight P v)
-    ∙ ap is_none (first_cong _ _ 0 P.m (λ i _. ap not (zero_bits w32 refl (weight P v i) (fits w32 (weight P v i) (omega (arith, weight_size t.problem.now.well_formed t.monomial i))))))
+    let e : c.loop-i.i ≡ length c.args.self.now.problem.now.moduli.now = omega arith in
+    sym (ap is_none (rw e at c.loop-i.invariant))

@@ -1,10 +1,9 @@
-use Rattle.std.proofs.Common.{rules, ◌≡◌, ◌∙◌, ap}
+use Rattle.std.proofs.Common.{rules, ◌≡◌, ◌∙◌}
 use mir.Syntax.{w64}
 use mir.Val.{SFits}
 use mir.Facts.{to_z-of_z}
 use Rattle.rules.specs.Formulas.{row_times}
 use Rattle.formulas.specs.Term.{problem_at, v_at}
-use Rattle.formulas.specs.Terms.{dot_of}
 use Rattle.formulas.proofs.Weighing.{row_is, row_size}
 use Rattle.formulas.proofs.terms.Term.row_times.Goals as goal
 use Rattle.formulas.proofs.terms.Term.row_times.Goals.{After-dot}
@@ -12,7 +11,7 @@ use Rattle.formulas.proofs.terms.Term.row_times.Goals.{After-dot}
 is_row : (c : After-dot) → c.dot.result ≡ row_times (problem_at c.args.self.now) (v_at c.args.self.now) c.args.i
 is_row c =
     let t = c.args.self.now in
-    c.dot.ensures ∙ ap (dot_of _) c.deref.ensures.0 ∙ row_is t.problem.now.well_formed t.monomial c.args.i c.requires
+    c.dot.ensures ∙ row_is t.problem.now.well_formed t.monomial c.args.i c.requires
 
 pub returns-clause-is : goal.returns-clause-is
 returns-clause-is c =

@@ -25,11 +25,11 @@ lifted c =
     c.deref.ensures.0 ∙ (rw (c.term.ensures.of_problem, c.term.ensures.of_exponents) at c.k_then_v-e.ensures)
     ∙ tab-cong (N P) _ _ (k_then_v-alike P (λ j l. nth-part c.args.self.now.exponents.now (c.args.t * P.n) P.n j l))
 
-pub dot-requires : goal.dot-requires
-dot-requires c =
+pub wide_dot-requires : goal.wide_dot-requires
+wide_dot-requires c =
     let s = c.args.self.now in
     factors s.problem.now.well_formed s.solved c.columns-n.ensures.value (v_in s c.args.t) (small s c.args.t)
-    (lifted (goal.at.dot-requires c).After-deref) c.loop-i.i c.loop-i-test.true
+    (lifted (goal.at.wide_dot-requires c).After-deref) c.loop-i.i c.loop-i-test.true
 
 pub loop-i-preserved : goal.loop-i-preserved
 loop-i-preserved c =
@@ -37,7 +37,7 @@ loop-i-preserved c =
     let P : Problem = problem_in s in
     let g : ℕ = c.loop-i.i - s.rank in
     let next : c.loop-i.i + 1 - s.rank ≡ g + 1 = omega arith in
-    let fits : SFits w64 c.dot.result = search rules in
-    rw next (tab-push g (translated P (run P) (v_in s c.args.t)) c.push.ensures.items c.loop-i.invariant (to_z-of_z fits ∙ c.dot.ensures
+    let fits : SFits w64 c.wide_dot.result = search rules in
+    rw next (tab-push g (translated P (run P) (v_in s c.args.t)) c.push.ensures.items c.loop-i.invariant (to_z-of_z fits ∙ c.wide_dot.ensures
     ∙ exponent_is s.problem.now.well_formed s.solved c.columns-n.ensures.value (v_in s c.args.t) (small s c.args.t)
     (lifted (goal.at.loop-i-preserved c).After-deref) c.loop-i.i c.loop-i-test.true c.loop-i.auto.i))
