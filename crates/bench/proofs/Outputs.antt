@@ -1,7 +1,6 @@
 -- Lent outputs: whether the numbers that the code hands on have room, and what is written of filled ones. Assumes nothing.
-use Rattle.std.proofs.Common.{◌≡◌, sym, ap, ◌∙◌, List, ℕ, ◌<◌, ◌≤◌, arith, leb, length, take, drop, take_at, ℤ}
+use Rattle.std.proofs.Common.{◌≡◌, sym, ap, ◌∙◌, List, ℕ, ◌<◌, ◌≤◌, arith, leb, length, take, take_at, ℤ}
 use Rattle.std.proofs.lemmas.Bool.Decides.{nat_tests}
-use Rattle.std.specs.List.{refill}
 use Rattle.rules.specs.Bytes.{bytes_of}
 use Rattle.rules.specs.Calls.{filled}
 use Rattle.rules.specs.Bench.{has_room}
@@ -10,10 +9,6 @@ use Rattle.bench.specs.Words.{room_of}
 -- xs is handed on for the lent bytes bs
 pub room_same : (bs : List ℕ) (least : ℕ) (xs : List ℤ) → 0 < least → length xs ≡ room_of bs least → leb least (length xs) ≡ has_room least bs
 room_same bs least xs h e = grind (arith, nat_tests)
-
--- what is read of xs after a call that wrote it as ws
-pub refill_same : {xs lent ws now : List ℤ} → lent ≡ xs → length ws ≡ length lent → now ≡ refill (length xs) xs ws → now ≡ ws
-refill_same {xs} {lent} {ws} e l f = f ∙ take_at ws (drop (length ws) xs) (length xs) (l ∙ ap length e)
 
 -- the first count of xs are the contents
 pub record Written (least : ℕ) (xs contents : List ℤ) (count : ℕ) : Type 0 where
@@ -27,6 +22,6 @@ filled-written least count xs contents lent l f e =
     let q : take count xs ≡ contents = rw e (take_at contents _ count l) in
     record { fits = omega arith; front = q; long = sym (ap length q ∙ l) }
 
-pub written_is : (bs : List ℕ) {bs₁ : List ℕ} {least : ℕ} {xs now contents : List ℤ} {count : ℕ} → Written least xs contents count → now ≡ xs
-    → bs₁ ≡ filled (bytes_of (take count now)) bs → bs₁ ≡ filled (bytes_of contents) bs
-written_is bs {count = count} T l e = e ∙ ap (λ (t : List ℤ). filled (bytes_of t) bs) (ap (take count) l ∙ T.front)
+pub written_is : (bs : List ℕ) {bs₁ : List ℕ} {least : ℕ} {xs contents : List ℤ} {count : ℕ} → Written least xs contents count
+    → bs₁ ≡ filled (bytes_of (take count xs)) bs → bs₁ ≡ filled (bytes_of contents) bs
+written_is bs T e = e ∙ ap (λ (t : List ℤ). filled (bytes_of t) bs) T.front

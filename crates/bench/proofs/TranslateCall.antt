@@ -150,9 +150,9 @@ module _ {m n : ℕ} {matrix moduli cs es kept out : List ℕ} {a p c e x y : Li
         translates = rw i (record { number = B.number; place = B.place; d = B.d; kept = refl; translated = refl });
       }
 
-  pub success : {count k : ℕ} → count ≡ length c → r ≡ Ok k → Taken m n matrix moduli cs es kept out count k x₁ y₁
+  pub success : {k : ℕ} → r ≡ Ok k → Taken m n matrix moduli cs es kept out (length c) k x₁ y₁
   unfolding translate_of translate_verdict
-  success {count} {k} l h =
+  success {k} h =
       let v = verdict-taken h in
       let t = first_passed (sizes_in_range m n) inputs' outputs' (later P' f') v in
       let s = (all-heard t.0 t.1).0 in
@@ -161,4 +161,4 @@ module _ {m n : ℕ} {matrix moduli cs es kept out : List ℕ} {a p c e x y : Li
       let B = subst (λ (u : Verdict). Translates (translated_to P' f' x y u) (translate_answer (Ok k)) x₁ y₁) v (rw h at translates) in
       let B₁ = subst (λ (Q : Problem). Translates (translated_to Q f' x y taken) (translate_answer (Ok k)) x₁ y₁) s.0 B in
       let B₂ = subst (λ (g : Formula). Translates (translated_to P g x y taken) (translate_answer (Ok k)) x₁ y₁) s.1 B₁ in
-      taken_writes B₂ (l ∙ ap terms s.1) A.0 A.1 (sym verdict_same ∙ v)
+      taken_writes B₂ (ap terms s.1) A.0 A.1 (sym verdict_same ∙ v)

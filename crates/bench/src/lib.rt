@@ -33,12 +33,17 @@ pub fn glaukemis_build(
 ) -> BuildAnswer
     ensures { Builds (bench_build_of m n matrix.now moduli.now h.old v.old w.old) result h.new v.new w.new }
 {
-    let entries = decode::<129>(matrix);
-    let rows = decode::<9>(moduli);
-    let mut x = room::<ROOM_H>(h);
-    let mut y = room::<ROOM_V>(v);
-    let mut z = room::<ROOM_W>(w);
-    let built = scaling::build(m, n, &entries, &rows, &mut x, &mut y, &mut z);
+    let mut entries = [0; 129];
+    let entries = decode(matrix, &mut entries);
+    let mut rows = [0; 9];
+    let rows = decode(moduli, &mut rows);
+    let mut x = [0; ROOM_H];
+    let x = room(h, &mut x);
+    let mut y = [0; ROOM_V];
+    let y = room(v, &mut y);
+    let mut z = [0; ROOM_W];
+    let z = room(w, &mut z);
+    let built = scaling::build(m, n, entries, rows, x, y, z);
     if let Ok(b) = built {
         let cols = n as usize + b.moduli as usize;
         encode(h, &x[..m as usize * cols]);
@@ -60,13 +65,19 @@ pub fn glaukemis_translate(
 ) -> TranslateAnswer
     ensures { Translates (bench_translate_of m n matrix.now moduli.now coefficients.now exponents.now kept.old translated.old) result kept.new translated.new }
 {
-    let entries = decode::<129>(matrix);
-    let rows = decode::<9>(moduli);
-    let terms = decode::<65>(coefficients);
-    let powers = decode::<1025>(exponents);
-    let mut x = room::<ROOM_COEFFICIENTS>(kept);
-    let mut y = room::<ROOM_EXPONENTS>(translated);
-    let groups = formulas::translate(m, n, &entries, &rows, &terms, &powers, &mut x, &mut y);
+    let mut entries = [0; 129];
+    let entries = decode(matrix, &mut entries);
+    let mut rows = [0; 9];
+    let rows = decode(moduli, &mut rows);
+    let mut terms = [0; 65];
+    let terms = decode(coefficients, &mut terms);
+    let mut powers = [0; 1025];
+    let powers = decode(exponents, &mut powers);
+    let mut x = [0; ROOM_COEFFICIENTS];
+    let x = room(kept, &mut x);
+    let mut y = [0; ROOM_EXPONENTS];
+    let y = room(translated, &mut y);
+    let groups = formulas::translate(m, n, entries, rows, terms, powers, x, y);
     if let Ok(d) = groups {
         encode(kept, &x[..terms.len()]);
         encode(translated, &y[..terms.len() * d as usize]);

@@ -4,32 +4,30 @@ ghost use Rattle.rules.specs.Bytes.{bytes_of};
 ghost use Rattle.rules.specs.Calls.{filled};
 ghost use Rattle.bench.specs.Words.{Decoded, room_of};
 
-use arrayvec::ArrayVec;
 use byte_numbers::{four_bytes, long};
 
-// All the numbers in s; N of them where s holds no whole count of numbers, or not fewer than N.
-pub fn decode<const N: usize>(s: &[u8]) -> ArrayVec<i32, N>
-    ensures { Decoded s.now N result.items }
+// All the numbers in s, at the front of what is lent for them; all that is lent where s holds no whole count of numbers, or not fewer than that.
+pub fn decode<'a>(s: &[u8], numbers: &'a mut [i32]) -> &'a [i32]
+    ensures { Decoded s.now (length numbers.old) result.now }
 {
     let (words, torn) = s.as_chunks::<4>();
-    if !torn.is_empty() || N <= words.len() {
-        return ArrayVec::from([0; N]);
+    if !torn.is_empty() || numbers.len() <= words.len() {
+        return numbers;
     }
-    let mut numbers = ArrayVec::new();
-    for &[a, b, c, d] in words {
-        numbers.push(long(a, b, c, d));
+    for (i, &[a, b, c, d]) in words.iter().enumerate() {
+        numbers[i] = long(a, b, c, d);
     }
-    numbers
+    &numbers[..words.len()]
 }
 
-// N zeros where s has room for so many numbers and a whole count of them, else none.
-pub fn room<const N: usize>(s: &[u8]) -> ArrayVec<i32, N>
-    ensures { length result.items ≡ room_of s.now N }
+// All that is lent where s has room for so many numbers and a whole count of them, else none of it.
+pub fn room<'a>(s: &[u8], numbers: &'a mut [i32]) -> &'a mut [i32]
+    ensures { length result.now ≡ room_of s.now (length numbers.old) }
 {
-    if s.len() % 4 == 0 && N <= s.len() / 4 {
-        ArrayVec::from([0; N])
+    if s.len() % 4 == 0 && numbers.len() <= s.len() / 4 {
+        numbers
     } else {
-        ArrayVec::new()
+        &mut numbers[..0]
     }
 }
 
