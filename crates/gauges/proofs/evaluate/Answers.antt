@@ -1,4 +1,5 @@
-use Rattle.std.proofs.Common.{sym, ap, ◌∙◌}
+use Rattle.std.proofs.Common.{◌≡◌, true, false, arith, sym, ap, ◌∙◌}
+use Rattle.std.proofs.lemmas.Grind.{common_steps}
 use Rattle.std.specs.List.{list_all}
 use Rattle.rules.specs.Limits.{power_in_range}
 use Rattle.gauges.specs.Gauging.{value_by}
@@ -16,17 +17,19 @@ returns-in_default-exponents c =
 pub returns-then-not-all_in_range : goal.returns-then-not-all_in_range
 returns-then-not-all_in_range c =
     let e = c.in-Some-exponents.ensures in
-    sym (large_power c.args.groups.now c.args.group c.args.readings.now c.requires c.in_default.ensures e.there _ e.found
-    (c.if-not-all_in_range.ensures ∙ ap (list_all power_in_range) c.deref.ensures.0))
+    let judged : false ≡ list_all power_in_range c.in-Some-exponents.exponents.items = grind (arith, common_steps, c.if-not-all_in_range.ensures, c.deref.ensures.0) in
+    sym (large_power c.args.groups.now c.args.group c.args.readings.now c.requires c.in_default.ensures e.there _ e.found judged)
 
 pub returns-then-is_out : goal.returns-then-is_out
 returns-then-is_out c =
     let e = c.in-Some-exponents.ensures in
-    sym (out_of_range c.args.groups.now c.args.group c.args.readings.now c.requires c.in_default.ensures e.there _ e.found
-    (c.if-not-all_in_range.ensures ∙ ap (list_all power_in_range) c.deref.ensures.0) _ (c.product-value.ensures ∙ ap (value_by c.args.readings.now) c.deref-2.ensures.0) c.if-is_out.ensures)
+    let judged : true ≡ list_all power_in_range c.in-Some-exponents.exponents.items = grind (arith, common_steps, c.if-not-all_in_range.ensures, c.deref.ensures.0) in
+    sym (out_of_range c.args.groups.now c.args.group c.args.readings.now c.requires c.in_default.ensures e.there _ e.found judged
+    _ (c.product-value.ensures ∙ ap (value_by c.args.readings.now) c.deref-2.ensures.0) c.if-is_out.ensures)
 
 pub returns : goal.returns
 returns c =
     let e = c.in-Some-exponents.ensures in
-    sym (in_range c.args.groups.now c.args.group c.args.readings.now c.requires c.in_default.ensures e.there _ e.found
-    (c.if-not-all_in_range.ensures ∙ ap (list_all power_in_range) c.deref.ensures.0) _ (c.product-value.ensures ∙ ap (value_by c.args.readings.now) c.deref-2.ensures.0) c.if-is_out.ensures)
+    let judged : true ≡ list_all power_in_range c.in-Some-exponents.exponents.items = grind (arith, common_steps, c.if-not-all_in_range.ensures, c.deref.ensures.0) in
+    sym (in_range c.args.groups.now c.args.group c.args.readings.now c.requires c.in_default.ensures e.there _ e.found judged
+    _ (c.product-value.ensures ∙ ap (value_by c.args.readings.now) c.deref-2.ensures.0) c.if-is_out.ensures)

@@ -1,11 +1,13 @@
 -- Sizes and count come first; the build decides up to 7, and `evaluate` does the rest on the groups that V holds.
 use Rattle.std.proofs.Common.{arith, refl, sym, ap, ◌∙◌, List, ℤ, pos, Result}
+use Rattle.std.proofs.lemmas.Grind.{common_steps}
 use Rattle.std.proofs.lemmas.Result.{err_from_is_err_and}
 use lib.ListN.{replicate}
 use Rattle.rules.specs.Limits.{room_h, room_v, room_w}
 use Rattle.rules.specs.Problem.{Problem}
 use Rattle.rules.specs.Calls.{build_of}
 use Rattle.checks.specs.declared.Refusal.{Refusal}
+use Rattle.checks.specs.Checks.{given}
 use Rattle.scaling.specs.declared.Built.{Built}
 use Rattle.scaling.specs.Answers.{answer_of}
 use Rattle.scaling.specs.BuildPromise.{Builds}
@@ -22,7 +24,9 @@ called : {P : Problem} {r : Result Built Refusal} {h v w : List ℤ}
 called b = record { builds = b; room = refl }
 
 pub returns-then-not-sizes_in_range : goal.returns-then-not-sizes_in_range
-returns-then-not-sizes_in_range c = sym (refused_for_sizes _ (set_of c.args.readings) c.args.group (sym c.if-not-sizes_in_range.ensures))
+returns-then-not-sizes_in_range c =
+    let e = refused_for_sizes (given c.args.m c.args.n c.args.matrix.now c.args.moduli.now) (set_of c.args.readings) c.args.group (sym c.if-not-sizes_in_range.ensures) in
+    grind (arith, common_steps, e)
 
 pub returns-then-readings-n : goal.returns-then-readings-n
 returns-then-readings-n c =
