@@ -23,10 +23,10 @@
  * THREADS. The calls keep no state, take no memory but the stack, and always return. Several threads may call at once, so long as none
  * writes a buffer that another one reads or writes.
  *
- * STACK. 1 MB is enough for every call on every input. glaukemis_translate takes most: 133,856 bytes where no row takes more than one
+ * STACK. 1 MB is enough for every call on every input. glaukemis_translate takes most: 115,824 bytes where no row takes more than one
  * repetition of (A), R7.8 of the rules, and 10,912 more for each further one in the deepest row. There are at most 66, as is proved, and
- * with them it would take 843,136. The deepest problem that is known has 50, and takes 668,544. glaukemis_weigh, which makes no build,
- * takes 544. (The bytes were measured, by docs/stack.sh, of the library for x86-64.)
+ * with them it would take 825,104. The deepest problem that is known has 50, and takes 650,512. glaukemis_weigh, which makes no build,
+ * takes 57. (The bytes were measured, by docs/stack.sh, of the library for x86-64.)
  */
 #ifndef GLAUKEMIS_H
 #define GLAUKEMIS_H
