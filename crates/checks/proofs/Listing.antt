@@ -1,8 +1,8 @@
 -- The rows with a modulus, listed one modulus after the other.
 use Rattle.std.proofs.Common.{◌≡◌, ℕ, suc, ◌+◌, ◌<◌, ℤ, List, [], ◌∷◌, ◌++◌, Bool, true, false, length, take, replicate, get_or, set, ◌≤◌, refl, sym, ap, ◌∙◌, arith}
 use lib.IntN.{pos}
-use lib.Seq.{take-suc, take-length, length-take-le}
-use Rattle.std.proofs.lemmas.List.{take_more_set, length-set, get_or-take, get_or-set_other, length-take}
+use lib.Seq.{take-suc, length-take-le}
+use Rattle.std.proofs.lemmas.List.{take_more_set, length-set, get_or-set_other}
 use native.Mathlib.Nat.{add-zero, zero-add}
 use Rattle.whole.specs.Lists.{nth}
 use Rattle.whole.proofs.Lists.{nth-replicate}
@@ -11,8 +11,7 @@ use Rattle.rules.specs.Problem.{modulus_rows_from, s}
 use Rattle.checks.specs.declared.lent.ModulusRows.{ModulusRows}
 use Rattle.checks.specs.declared.lent.Checked.{Checked}
 use Rattle.checks.specs.Checks.{problem_of}
-use Rattle.checks.specs.Lent.{first8}
-use Rattle.checks.specs.Moduli.{listed, ListsFirst8}
+use Rattle.checks.specs.Moduli.{listed}
 
 -- ---- one modulus more at the end
 rows-passed : (k : ℕ) (ps : List ℤ) (p : ℤ) → is_zero p ≡ true → modulus_rows_from k (ps ++ p ∷ []) ≡ modulus_rows_from k ps
@@ -68,22 +67,6 @@ module _ {moduli : List ℤ} {i : ℕ} {q : ModulusRows} (l : Listed moduli i q)
     rows = take_more_set q.rows q.s i (omega (arith, l.few, l.long)) ∙ ap (λ xs. xs ++ i ∷ []) l.rows ∙ sym (listed_with moduli i h e);
     rest = λ c k. get_or-set_other q.rows q.s c i 0 (omega arith) ∙ l.rest c (omega arith);
   }
-
--- what the array is at the end
-pub lists_first8 : {moduli : List ℤ} {q : ModulusRows} → Listed (take 8 moduli) (length (take 8 moduli)) q → ListsFirst8 moduli q × (listed q ≡ first8 moduli)
-lists_first8 {moduli} {q} l =
-    let e : listed q ≡ first8 moduli = l.rows ∙ ap (modulus_rows_from 0) (take-length (take 8 moduli)) in
-    let f : q.s ≤ 8 = omega (arith, l.few, length-take 8 moduli) in
-    let n : length (listed q) ≡ q.s = length-take-le q.s q.rows (omega (arith, l.long)) in (
-      record {
-        long = l.long;
-        count = sym n ∙ ap length e;
-        few = f;
-        rows = λ c h. sym (get_or-take q.s q.rows c 0 h) ∙ ap (λ xs. get_or xs c 0) e;
-        rest = l.rest;
-      },
-      e,
-    )
 
 -- ---- a problem that has passed
 pub rows_counted : (p : Checked) → p.rows.s ≡ s (problem_of p)

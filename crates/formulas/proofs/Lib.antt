@@ -1,7 +1,7 @@
 -- The proofs of the functions stand beside this file, in folders that mirror src/. The general modules, each standing on those above it:
 --     Sums            sums of products, and that their beginnings fit
 --     Written         lists made of a function of the index
---     Searches        the library's tests of a list, as searches over indices
+--     Searches        the library's test of a list, as a search over indices
 --     GridRows        grids, one row after the other
 --     Weighing        a row times a monomial, and the weights
 --     KThenV          k followed by v

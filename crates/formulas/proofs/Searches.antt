@@ -1,11 +1,11 @@
--- The library's tests of a list's elements, as the definitions' search over indices.
+-- The library's test of a list's elements, as the definitions' search over indices.
 use mathlib.Core.Path.{◌≡◌, refl, sym, ◌∙◌, ap}
-use mathlib.Core.Bool.{Bool, true, false, not, ◌&&◌, ◌||◌}
-use mathlib.Core.List.{List, [], ◌∷◌}
+use mathlib.Core.Bool.{Bool, true, false, not, ◌||◌}
+use mathlib.Core.List.{[], ◌∷◌}
 use Prim.Native.Nat.{ℕ, zero, suc}
 use native.Mathlib.Omega.{arith}
 use lib.IntN.{ℤ}
-use Rattle.std.specs.List.{list_any, list_all}
+use Rattle.std.specs.List.{list_any}
 use Rattle.std.proofs.lemmas.List.Folds.{list_any-append}
 use Rattle.whole.specs.Lists.{tab}
 use Rattle.rules.specs.Search.{Found, none, found, first}
@@ -24,18 +24,3 @@ any-first p (suc n) f =
     go none true = refl
     go none false = refl
     go (found j) b = refl
-
-all-any : (p : ℤ → Bool) (xs : List ℤ) → list_all p xs ≡ not (list_any (λ x. not (p x)) xs)
-all-any p [] = refl
-all-any p (x ∷ xs) = go (p x) (all-any p xs)
-  where
-    go : (b : Bool) → list_all p xs ≡ not (list_any (λ x. not (p x)) xs) → b && list_all p xs ≡ not (not b || list_any (λ x. not (p x)) xs)
-    go true h = h
-    go false h = refl
-
-pub all-first : (p : ℤ → Bool) (n : ℕ) (f : ℕ → ℤ) → list_all p (tab n f) ≡ is_none (first (λ i. not (p (f i))) 0 n)
-all-first p n f = all-any p (tab n f) ∙ ap not (any-first (λ x. not (p x)) n f) ∙ twice (is_none (first (λ i. not (p (f i))) 0 n))
-  where
-    twice : (b : Bool) → not (not b) ≡ b
-    twice true = refl
-    twice false = refl

@@ -25,7 +25,7 @@ take-tab zero xs d h = refl
 take-tab (suc n) [] d h = absurd (omega arith)
 take-tab (suc n) (x ∷ xs) d h = ap (λ l. x ∷ l) (take-tab n xs d (omega arith))
 
--- ---- from an index on; `written` of specs/Terms
+-- ---- from an index on
 module _ {ℓ} {A : Type ℓ} (xs : List A) (at : ℕ) (f : ℕ → A) where
   length_head : (k : ℕ) → at + k ≤ length xs → length (take at xs ++ tab k f) ≡ at + k
   length_head k h = length-append (take at xs) (tab k f) ∙ omega (arith, length-take-le at xs (omega arith), length-tab k f)

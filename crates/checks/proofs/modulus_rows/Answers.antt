@@ -6,7 +6,7 @@ use mir.Syntax.{w32}
 use mir.Val.{SFits}
 use Rattle.whole.specs.Lists.{nth}
 use Rattle.rules.specs.Limits.{is_zero}
-use Rattle.checks.proofs.Listing.{listed-none, row_passed, row_listed, lists_first8}
+use Rattle.checks.proofs.Listing.{listed-none, row_passed, row_listed}
 use Rattle.checks.proofs.modulus_rows.Goals as goal
 use Rattle.checks.proofs.modulus_rows.Goals.{then-not-is_zero, else-not-is_zero}
 

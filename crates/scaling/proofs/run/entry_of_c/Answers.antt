@@ -38,4 +38,4 @@ returns-in-None c =
     let p = c.args.p.now in
     let x : SFits w32 (nth p.matrix.now (c.args.i * p.n + (c.args.c - p.rows.s))) = search rules in
     let l = ltb-false _ _ (sym c.in-None.ensures.lookup.0) in
-    to_z-of_z x ∙ C-quantity p.well_formed c.requires (rows_counted p) (omega (arith, ap length c.modulus_rows.ensures.value, (rows_counted p), l))
+    to_z-of_z x ∙ C-quantity p.well_formed c.requires (rows_counted p) (omega (arith, ap length c.modulus_rows.ensures.value, rows_counted p, l))
